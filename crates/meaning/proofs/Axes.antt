@@ -1,0 +1,146 @@
+-- Laws of the axes, with the axis as a parameter: the inverse-axis law, ancestors by the chain of parents,
+-- and an axis's candidates: below the row count, and strictly monotone along the axis.
+-- Assumes nothing.
+use Prim.Native.Nat.{ℕ, zero, suc, _+_, _-_, _*_, _/_, _<_, _≤_}
+use mathlib.Core.Path.{_≡_, refl, sym, subst, ap, _∙_}
+use mathlib.Core.Logic.{_⊎_, inl, inr}
+use mathlib.Core.Bool.{Bool, true, false, _&&_, _||_, not, cond}
+use mathlib.Core.List.{List, [], _∷_, _++_}
+use lib.ListN.{length, getD}
+use borrow.Author.Tests.{lt-ltb}
+use lib.Dec.{T, leb, ltb, eqb, eqb-refl, ltb→lt, leb→le, eqb→eq, lt→ltb, le→leb}
+use native.Mathlib.Omega.{arith}
+use native.Mathlib.Nat.{eq-or-lt-of-le}
+use Rattle.meaning.specs.Lists.{keep, some, has, upTo, downFrom}
+use Rattle.meaning.specs.Table.{parentOf, rows, end, accepted}
+use Rattle.meaning.specs.Axis.{Axis, Test, inside, on, passes, isReverse, ordered, candidates}
+use Rattle.meaning.specs.Axis as A
+use Rattle.meaning.specs.Turning.{inverse}
+use Rattle.meaning.proofs.Bools.{and-l, and-r, and-i, or-e, or-i-l, or-i-r, eqb-sym, eq→eqb, same, lt-or-ge}
+use Rattle.meaning.proofs.Lists.{some-append, has-keep-to, has-keep-from, has-order-to, has-order-from, has-downFrom-to, has-upTo-to}
+use Rattle.meaning.proofs.Tables.{Child, child, nest}
+
+-- y lies on an axis of x exactly when x lies on the inverse axis of y
+pub inverse-axis : (t : List ℕ) (a : Axis) (x y : ℕ) → on t a x y ≡ on t (inverse a) y x
+unfolding on inverse
+inverse-axis t A.self x y = eqb-sym x y
+inverse-axis t A.child x y = refl
+inverse-axis t A.parent x y = refl
+inverse-axis t A.descendant x y = refl
+inverse-axis t A.ancestor x y = refl
+inverse-axis t A.descendant-or-self x y = rw (eqb-sym x y)
+inverse-axis t A.ancestor-or-self x y = rw (eqb-sym x y)
+inverse-axis t A.following x y = refl
+inverse-axis t A.preceding x y = refl
+inverse-axis t A.following-sibling x y = rw (eqb-sym (parentOf t x) (parentOf t y))
+inverse-axis t A.preceding-sibling x y = rw (eqb-sym (parentOf t x) (parentOf t y))
+
+-- is y the parent of x, or its parent's parent, and so on, k steps at most?
+unfoldable pub above : List ℕ → ℕ → ℕ → ℕ → Bool
+above t zero x y = false
+above t (suc k) x y = on t A.parent x y || (ltb 0 x && above t k (parentOf t x) y)
+
+module _ (t : List ℕ) (acc : accepted t ≡ true) where
+  -- a node's ancestors are its parent and its parent's ancestors
+  ancestor-step : (x y : ℕ) → 0 < x → x < rows t → on t A.ancestor x y ≡ (on t A.parent x y || on t A.ancestor (parentOf t x) y)
+  unfolding on inside
+  ancestor-step x y p h = same (on t A.ancestor x y) (on t A.parent x y || on t A.ancestor (parentOf t x) y)
+      (λ k.
+      let a : y < x = ltb→lt y x (and-l (ltb y x) (leb x (end t y)) k) in
+      let b : x ≤ end t y = leb→le x (end t y) (and-r (ltb y x) (leb x (end t y)) k) in
+      elim (eq-or-lt-of-le (c .largest y a b)) [
+        | inl e ↦ or-i-l (on t A.parent x y) (on t A.ancestor (parentOf t x) y) (and-i (ltb 0 x) (eqb (parentOf t x) y) (lt→ltb 0 x p) (eq→eqb (parentOf t x) y (sym e)))
+        | inr l ↦ or-i-r (on t A.parent x y) (on t A.ancestor (parentOf t x) y) (and-i (ltb y (parentOf t x)) (leb (parentOf t x) (end t y)) (lt→ltb y (parentOf t x) l) (le→leb (parentOf t x) (end t y) (omega (arith, c .below))))
+      ])
+      (λ k. or-e (on t A.parent x y) (on t A.ancestor (parentOf t x) y) k
+      (λ m.
+      let e : parentOf t x ≡ y = eqb→eq (parentOf t x) y (and-r (ltb 0 x) (eqb (parentOf t x) y) m) in
+      subst (λ (z : ℕ). T (ltb z x && leb x (end t z))) e (and-i (ltb (parentOf t x) x) (leb x (end t (parentOf t x))) (lt→ltb (parentOf t x) x (c .below)) (le→leb x (end t (parentOf t x)) (c .reached))))
+      (λ m.
+      let a : y < parentOf t x = ltb→lt y (parentOf t x) (and-l (ltb y (parentOf t x)) (leb (parentOf t x) (end t y)) m) in
+      let b : parentOf t x ≤ end t y = leb→le (parentOf t x) (end t y) (and-r (ltb y (parentOf t x)) (leb (parentOf t x) (end t y)) m) in
+      let n : end t (parentOf t x) ≤ end t y = nest t acc y (parentOf t x) (omega (arith, c .below)) a b in
+      and-i (ltb y x) (leb x (end t y)) (lt→ltb y x (omega (arith, c .below))) (le→leb x (end t y) (omega (arith, c .reached)))))
+    where
+      c : Child t x
+      c = child t acc x p h
+
+  root-alone : (k y : ℕ) → on t A.ancestor 0 y ≡ above t k 0 y
+  unfolding on inside above
+  root-alone zero y = same (ltb y 0 && leb 0 (end t y)) false (λ h. absurd (omega (arith, ltb→lt y 0 (and-l (ltb y 0) (leb 0 (end t y)) h)))) (λ h. absurd h)
+  root-alone (suc k) y = same (ltb y 0 && leb 0 (end t y)) false (λ h. absurd (omega (arith, ltb→lt y 0 (and-l (ltb y 0) (leb 0 (end t y)) h)))) (λ h. absurd h)
+
+  -- ancestor by `end` agrees with the chain of parents
+  pub ancestors-are-above : (k x y : ℕ) → x ≤ k → x < rows t → on t A.ancestor x y ≡ above t k x y
+  unfolding above
+  ancestors-are-above zero x y h l = let e : x ≡ 0 = omega arith in rw e (root-alone 0 y)
+  ancestors-are-above (suc k) x y h l = elim (lt-or-ge 0 x) [
+    | inr z ↦ let e : x ≡ 0 = omega arith in rw e (root-alone (suc k) y)
+    | inl p ↦
+        let b : parentOf t x < x = child t acc x p l .below in
+        ancestor-step x y p l ∙ rw (lt-ltb 0 x p, ancestors-are-above k (parentOf t x) y (omega arith) (omega arith))
+  ]
+
+-- ---- candidates
+
+-- a candidate is on the axis, passes the test and is a row
+pub candidate-to : (t : List ℕ) (a : Axis) (u : Test) (x y : ℕ) → T (has (candidates t a u x) y) → T (on t a x y) × T (passes t u y) × (y < rows t)
+unfolding candidates
+candidate-to t a u x y h =
+    let r : T (on t a x y && passes t u y) × T (has (ordered (isReverse a) (rows t)) y) = has-keep-to (λ z. on t a x z && passes t u z) (ordered (isReverse a) (rows t)) y h in
+    (and-l (on t a x y) (passes t u y) (r .0), and-r (on t a x y) (passes t u y) (r .0), has-order-to (isReverse a) (rows t) y (r .1))
+
+pub candidate-from : (t : List ℕ) (a : Axis) (u : Test) (x y : ℕ) → T (on t a x y) → T (passes t u y) → y < rows t → T (has (candidates t a u x) y)
+unfolding candidates
+candidate-from t a u x y h k l =
+    has-keep-from (λ z. on t a x z && passes t u z) (ordered (isReverse a) (rows t)) y (and-i (on t a x y) (passes t u y) h k) (has-order-from (isReverse a) (rows t) y l)
+
+-- x stands before y in document order, or in reverse
+unfoldable pub Before : Bool → ℕ → ℕ → Type 0
+Before false x y = x < y
+Before true x y = y < x
+
+-- each member stands before all behind it
+unfoldable pub Monotone : Bool → List ℕ → Type 0
+Monotone r [] = Unit {0}
+Monotone r (x ∷ xs) = ((y : ℕ) → T (has xs y) → Before r x y) × Monotone r xs
+
+monotone-down : (n : ℕ) → Monotone true (downFrom n)
+unfolding downFrom Monotone Before
+monotone-down zero = tt
+monotone-down (suc n) = (has-downFrom-to n, monotone-down n)
+
+monotone-last : (l : List ℕ) (n : ℕ) → Monotone false l → ((y : ℕ) → T (has l y) → y < n) → Monotone false (l ++ (n ∷ []))
+unfolding Monotone Before some
+monotone-last [] n m h = (λ y f. absurd f, tt)
+monotone-last (x ∷ xs) n m h = (
+  λ y f. or-e (has xs y) (has (n ∷ []) y) (rw (some-append (eqb y) xs (n ∷ [])) at f)
+      (λ k. m .0 y k)
+      (λ k. or-e (eqb y n) false k
+      (λ e. omega (arith, eqb→eq y n e, h x (or-i-l (eqb x x) (has xs x) (eqb-refl x))))
+      (λ e. absurd e)),
+  monotone-last xs n (m .1) (λ y f. h y (or-i-r (eqb y x) (has xs y) f)),
+)
+
+monotone-up : (n : ℕ) → Monotone false (upTo n)
+unfolding upTo Monotone
+monotone-up zero = tt
+monotone-up (suc n) = monotone-last (upTo n) n (monotone-up n) (has-upTo-to n)
+
+monotone-keep : (r : Bool) (p : ℕ → Bool) (l : List ℕ) → Monotone r l → Monotone r (keep p l)
+unfolding keep Monotone
+monotone-keep r p [] m = m
+monotone-keep r p (x ∷ xs) m = go (p x) (monotone-keep r p xs (m .1))
+  where
+    go : (b : Bool) → Monotone r (keep p xs) → Monotone r (cond b (x ∷ keep p xs) (keep p xs))
+    go true k = (λ y f. m .0 y (has-keep-to p xs y f .1), k)
+    go false k = k
+
+-- the candidates are strictly monotone along the axis
+pub candidates-monotone : (t : List ℕ) (a : Axis) (u : Test) (x : ℕ) → Monotone (isReverse a) (candidates t a u x)
+unfolding candidates
+candidates-monotone t a u x = monotone-keep (isReverse a) (λ y. on t a x y && passes t u y) (ordered (isReverse a) (rows t)) (by (isReverse a))
+  where
+    by : (r : Bool) → Monotone r (ordered r (rows t))
+    by true = unfold ordered in monotone-down (rows t)
+    by false = unfold ordered in monotone-up (rows t)

@@ -1,0 +1,5 @@
+pub mod Bools
+pub mod Lists
+pub mod Tables
+pub mod Axes
+pub mod Trees

@@ -1,0 +1,224 @@
+-- Laws of lists of numbers: members, what is kept of a list, the orders of rows, the lowest number at which a test holds.
+-- Assumes nothing.
+use Prim.Native.Nat.{ℕ, zero, suc, _+_, _-_, _<_, _≤_}
+use mathlib.Core.Path.{_≡_, refl, sym, subst, ap, _∙_}
+use mathlib.Core.Logic.{_⊎_, inl, inr, ⊎-elim}
+use mathlib.Core.Bool.{Bool, true, false, _&&_, _||_, not, cond, or-assoc, or-false, or-comm}
+use mathlib.Core.List.{List, [], _∷_, _++_, append-nil}
+use lib.Dec.{T, leb, ltb, eqb, eqb→eq, eqb-refl}
+use lib.ListN.{length, getD, length-append, List·getD-append}
+use lib.Seq.{getD-at}
+use native.Mathlib.Omega.{arith}
+use native.Mathlib.Nat.{eq-or-lt-of-le}
+use native.Mathlib.Numerals.{add-one}
+use borrow.Author.Tests.{lt-ltb, le-ltb, ltb-true, ltb-false}
+use Rattle.meaning.specs.Lists.{keep, some, has, upTo, downFrom, lowest}
+use Rattle.meaning.specs.Axis.{ordered}
+use Rattle.meaning.specs.Meaning.{keepAt}
+use Rattle.meaning.proofs.Bools.{and-l, and-r, and-i, or-e, or-i-l, or-i-r, eq→eqb, same, is-true, is-false, truly, untrue, lt-or-ge, or-none-l, or-none-r}
+
+-- ---- members
+
+pub some-to : (p : ℕ → Bool) (l : List ℕ) → T (some p l) → (z : ℕ) × T (p z) × T (has l z)
+unfolding some
+some-to p [] h = absurd h
+some-to p (x ∷ xs) h = or-e (p x) (some p xs) h
+    (λ k. (x, k, or-i-l (eqb x x) (some (eqb x) xs) (eqb-refl x)))
+    (λ k. let r : (z : ℕ) × T (p z) × T (has xs z) = some-to p xs k in (r .0, r .1, or-i-r (eqb (r .0) x) (some (eqb (r .0)) xs) (r .2)))
+
+pub some-from : (p : ℕ → Bool) (l : List ℕ) (z : ℕ) → T (p z) → T (has l z) → T (some p l)
+unfolding some
+some-from p [] z h k = k
+some-from p (x ∷ xs) z h k = or-e (eqb z x) (some (eqb z) xs) k
+    (λ e. or-i-l (p x) (some p xs) (subst (λ (w : ℕ). T (p w)) (eqb→eq z x e) h))
+    (λ m. or-i-r (p x) (some p xs) (some-from p xs z h m))
+
+has-cond : (b : Bool) (x : ℕ) (l : List ℕ) (y : ℕ) → has (cond b (x ∷ l) l) y ≡ ((b && eqb y x) || has l y)
+unfolding some
+has-cond true x l y = refl
+has-cond false x l y = refl
+
+pub has-keep-from : (p : ℕ → Bool) (l : List ℕ) (y : ℕ) → T (p y) → T (has l y) → T (has (keep p l) y)
+unfolding some keep
+has-keep-from p [] y h k = k
+has-keep-from p (x ∷ xs) y h k = subst T (sym (has-cond (p x) x (keep p xs) y)) (or-e (eqb y x) (some (eqb y) xs) k
+    (λ e. or-i-l (p x && eqb y x) (has (keep p xs) y) (and-i (p x) (eqb y x) (subst (λ (w : ℕ). T (p w)) (eqb→eq y x e) h) e))
+    (λ m. or-i-r (p x && eqb y x) (has (keep p xs) y) (has-keep-from p xs y h m)))
+
+pub has-keep-to : (p : ℕ → Bool) (l : List ℕ) (y : ℕ) → T (has (keep p l) y) → T (p y) × T (has l y)
+unfolding some keep
+has-keep-to p [] y h = absurd h
+has-keep-to p (x ∷ xs) y h = or-e (p x && eqb y x) (has (keep p xs) y) (subst T (has-cond (p x) x (keep p xs) y) h)
+    (λ k. (subst (λ (w : ℕ). T (p w)) (sym (eqb→eq y x (and-r (p x) (eqb y x) k))) (and-l (p x) (eqb y x) k), or-i-l (eqb y x) (some (eqb y) xs) (and-r (p x) (eqb y x) k)))
+    (λ k. let r : T (p y) × T (has xs y) = has-keep-to p xs y k in (r .0, or-i-r (eqb y x) (some (eqb y) xs) (r .1)))
+
+pub some-append : (p : ℕ → Bool) (xs ys : List ℕ) → some p (xs ++ ys) ≡ (some p xs || some p ys)
+unfolding some
+some-append p [] ys = refl
+some-append p (x ∷ xs) ys = rw (some-append p xs ys) (sym (or-assoc (p x) (some p xs) (some p ys)))
+
+-- ---- numbers below n, up and down
+
+pub some-last : (p : ℕ → Bool) (n : ℕ) → some p (upTo (suc n)) ≡ (some p (upTo n) || p n)
+unfolding upTo some
+some-last p n = rw (some-append p (upTo n) (n ∷ []), or-false (p n))
+
+pub has-downFrom-to : (n y : ℕ) → T (has (downFrom n) y) → y < n
+unfolding some downFrom
+has-downFrom-to zero y h = absurd h
+has-downFrom-to (suc n) y h = or-e (eqb y n) (has (downFrom n) y) h (λ e. omega (arith, eqb→eq y n e)) (λ k. omega (arith, has-downFrom-to n y k))
+
+pub has-downFrom-from : (n y : ℕ) → y < n → T (has (downFrom n) y)
+unfolding some downFrom
+has-downFrom-from zero y h = absurd (omega arith)
+has-downFrom-from (suc n) y h = elim (eq-or-lt-of-le {n = y} {m = n} (omega arith)) [
+  | inl e ↦ or-i-l (eqb y n) (has (downFrom n) y) (eq→eqb y n e)
+  | inr l ↦ or-i-r (eqb y n) (has (downFrom n) y) (has-downFrom-from n y l)
+]
+
+has-upTo : (n y : ℕ) → has (upTo n) y ≡ has (downFrom n) y
+unfolding some upTo downFrom
+has-upTo zero y = refl
+has-upTo (suc n) y = rw (some-append (eqb y) (upTo n) (n ∷ []), or-false, or-comm, has-upTo n y)
+
+-- the rows in either order
+pub has-order-to : (r : Bool) (n y : ℕ) → T (has (ordered r n) y) → y < n
+unfolding ordered
+has-order-to true n y h = has-downFrom-to n y h
+has-order-to false n y h = has-downFrom-to n y (rw has-upTo at h)
+
+pub has-order-from : (r : Bool) (n y : ℕ) → y < n → T (has (ordered r n) y)
+unfolding ordered
+has-order-from true n y h = has-downFrom-from n y h
+has-order-from false n y h = rw has-upTo (has-downFrom-from n y h)
+
+pub has-upTo-to : (n y : ℕ) → T (has (upTo n) y) → y < n
+unfolding ordered
+has-upTo-to n y h = has-order-to false n y h
+
+pub has-upTo-from : (n y : ℕ) → y < n → T (has (upTo n) y)
+unfolding ordered
+has-upTo-from n y h = has-order-from false n y h
+
+-- a test that holds at no number below n
+pub none-below : (p : ℕ → Bool) (n : ℕ) → ((k : ℕ) → k < n → p k ≡ false) → some p (upTo n) ≡ false
+none-below p n h = is-false (some p (upTo n)) (λ s.
+    let r : (z : ℕ) × T (p z) × T (has (upTo n) z) = some-to p (upTo n) s in
+    untrue (h (r .0) (has-upTo-to n (r .0) (r .2))) (r .1))
+
+pub below-none : (p : ℕ → Bool) (n : ℕ) → some p (upTo n) ≡ false → (k : ℕ) → k < n → p k ≡ false
+below-none p n h k l = is-false (p k) (λ t. untrue h (some-from p (upTo n) k t (has-upTo-from n k l)))
+
+pub length-upTo : (n : ℕ) → length (upTo n) ≡ n
+unfolding upTo
+length-upTo zero = refl
+length-upTo (suc n) = rw (length-append (upTo n) (n ∷ []), length-upTo n) (add-one n)
+
+pub length-downFrom : (n : ℕ) → length (downFrom n) ≡ n
+unfolding downFrom
+length-downFrom zero = refl
+length-downFrom (suc n) = ap suc (length-downFrom n)
+
+pub length-ordered : (r : Bool) (n : ℕ) → length (ordered r n) ≡ n
+unfolding ordered
+length-ordered true n = length-downFrom n
+length-ordered false n = length-upTo n
+
+pub upTo-at : (n i : ℕ) → i < n → i ≡ getD (upTo n) i 0
+unfolding upTo
+upTo-at zero i h = absurd (omega arith)
+upTo-at (suc n) i h =
+    ⊎-elim
+    (λ l. upTo-at n i l ∙ sym (List·getD-append (upTo n) (n ∷ []) 0 i (rw (length-upTo n) l)))
+    (λ l. let e : i ≡ n = omega arith in rw e (sym (getD-at (upTo n) n [] 0 n (length-upTo n))))
+    (lt-or-ge i n)
+
+pub downFrom-at : (n i : ℕ) → i < n → n - 1 - i ≡ getD (downFrom n) i 0
+unfolding downFrom
+downFrom-at zero i h = absurd (omega arith)
+downFrom-at (suc n) zero h = omega arith
+downFrom-at (suc n) (suc i) h = let e : suc n - 1 - suc i ≡ n - 1 - i = omega arith in e ∙ downFrom-at n i (omega arith)
+
+-- ---- what is kept
+
+cond-append : (b : Bool) (x : ℕ) (l m n : List ℕ) → l ≡ m ++ n → cond b (x ∷ l) l ≡ cond b (x ∷ m) m ++ n
+cond-append true x l m n e = ap (λ (l : List ℕ). x ∷ l) e
+cond-append false x l m n e = e
+
+pub keep-append : (p : ℕ → Bool) (xs ys : List ℕ) → keep p (xs ++ ys) ≡ keep p xs ++ keep p ys
+unfolding keep
+keep-append p [] ys = refl
+keep-append p (x ∷ xs) ys = cond-append (p x) x _ _ _ (keep-append p xs ys)
+
+-- tests that agree on the rows keep the same rows
+pub keep-upTo : (p q : ℕ → Bool) (n : ℕ) → ((y : ℕ) → y < n → p y ≡ q y) → keep p (upTo n) ≡ keep q (upTo n)
+unfolding upTo keep
+keep-upTo p q zero h = refl
+keep-upTo p q (suc n) h =
+    keep-append p (upTo n) (n ∷ [])
+    ∙ rw (keep-upTo p q n (λ y l. h y (omega arith)), h n (omega arith)) (sym (keep-append q (upTo n) (n ∷ [])))
+
+pub keep-all : (l : List ℕ) → keep (λ y. true) l ≡ l
+unfolding keep
+keep-all [] = refl
+keep-all (x ∷ xs) = ap {B = List ℕ} (λ r. x ∷ r) (keep-all xs)
+
+pub keep-keep : (p q : ℕ → Bool) (l : List ℕ) → keep q (keep p l) ≡ keep (λ y. p y && q y) l
+unfolding keep
+keep-keep p q [] = refl
+keep-keep p q (x ∷ xs) = go (p x) (keep-keep p q xs)
+  where
+    go : (b : Bool) → keep q (keep p xs) ≡ keep (λ y. p y && q y) xs → keep q (cond b (x ∷ keep p xs) (keep p xs)) ≡ cond (b && q x) (x ∷ keep (λ y. p y && q y) xs) (keep (λ y. p y && q y) xs)
+    go true h = rw h
+    go false h = h
+
+-- a test that does not look at the position
+pub keepAt-free : (f : ℕ → ℕ → Bool) (g : ℕ → Bool) → ((y i : ℕ) → f y i ≡ g y) → (i : ℕ) (l : List ℕ) → keepAt f i l ≡ keep g l
+unfolding keep keepAt
+keepAt-free f g e i [] = refl
+keepAt-free f g e i (x ∷ xs) = rw (e x i, keepAt-free f g e (i + 1) xs)
+
+-- ---- the lowest number
+
+pub lowest-le : (f : ℕ → Bool) (n : ℕ) → lowest f n ≤ n
+unfolding lowest
+lowest-le f zero = omega arith
+lowest-le f (suc n) = go (ltb (lowest f n) n) (f n) (lowest-le f n)
+  where
+    go : (b c : Bool) → lowest f n ≤ n → cond b (lowest f n) (cond c n (suc n)) ≤ suc n
+    go true c h = omega arith
+    go false true h = omega arith
+    go false false h = omega arith
+
+none-lowest : (f : ℕ → Bool) (n : ℕ) → ((k : ℕ) → k < n → f k ≡ false) → lowest f n ≡ n
+unfolding lowest
+none-lowest f zero h = refl
+none-lowest f (suc n) h = rw (none-lowest f n (λ k l. h k (omega arith)), le-ltb n n (omega arith), h n (omega arith))
+
+-- k is the lowest if the test fails below it and holds at it, or it is n
+pub lowest-is : (f : ℕ → Bool) (n k : ℕ) → k ≤ n → ((j : ℕ) → j < k → f j ≡ false) → (k < n → f k ≡ true) → lowest f n ≡ k
+unfolding lowest
+lowest-is f zero k l h g = let e : k ≡ 0 = omega arith in rw e
+lowest-is f (suc n) k l h g = elim (eq-or-lt-of-le l) [
+  | inl e ↦ rw e (none-lowest f (suc n) (λ j m. h j (omega arith)))
+  | inr m ↦ elim (eq-or-lt-of-le {n = k} {m = n} (omega arith)) [
+    | inl e ↦
+        let b : lowest f n ≡ n = none-lowest f n (λ j m. h j (omega arith)) in
+        let t : f n ≡ true = ap f (sym e) ∙ g (omega arith) in
+        rw (b, le-ltb n n (omega arith), t, e)
+    | inr m ↦
+        let r : lowest f n ≡ k = lowest-is f n k (omega arith) h (λ a. g (omega arith)) in
+        rw (r, lt-ltb k n m)
+  ]
+]
+
+-- there is a number at which the test holds exactly if the lowest is below n
+pub lowest-some : (f : ℕ → Bool) (n : ℕ) → some f (upTo n) ≡ ltb (lowest f n) n
+unfolding lowest upTo some
+lowest-some f zero = refl
+lowest-some f (suc n) = some-last f n ∙ go (ltb (lowest f n) n) (f n) refl (lowest-some f n)
+  where
+    go : (b c : Bool) → ltb (lowest f n) n ≡ b → some f (upTo n) ≡ ltb (lowest f n) n → (some f (upTo n) || c) ≡ ltb (cond b (lowest f n) (cond c n (suc n))) (suc n)
+    go true c e h = rw (h, e) (sym (lt-ltb (lowest f n) (suc n) (omega (arith, ltb-true (lowest f n) n e))))
+    go false true e h = rw (h, e) (sym (lt-ltb n (suc n) (omega arith)))
+    go false false e h = rw (h, e) (sym (le-ltb (suc n) (suc n) (omega arith)))

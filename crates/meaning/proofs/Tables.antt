@@ -1,0 +1,125 @@
+-- The shape of an accepted table: what the parent rule says of a row, and that subtrees nest or are disjoint.
+-- Assumes nothing.
+use Prim.Native.Nat.{ℕ, zero, suc, _+_, _-_, _*_, _/_, _<_, _≤_}
+use mathlib.Core.Path.{_≡_, refl, sym, subst}
+use mathlib.Core.Logic.{_⊎_, inl, inr}
+use mathlib.Core.Bool.{Bool, true, false, _&&_, _||_, not, cond}
+use mathlib.Core.List.{List}
+use lib.ListN.{length}
+use lib.Dec.{T, leb, ltb, eqb, ltb→lt, leb→le, eqb→eq, lt→ltb, le→leb, nleb→lt}
+use native.Mathlib.Omega.{arith}
+use native.Mathlib.Nat.{eq-or-lt-of-le}
+use borrow.Author.Tests.{ne-eqb}
+use Rattle.meaning.specs.Lists.{upTo, some}
+use Rattle.meaning.specs.Table.{kind, name, parentOf, size, rows, end, mostRows, lengthAllowed, goodRoot, goodName, goodSize, nearest, goodParent, goodRow, broken, accepted}
+use Rattle.meaning.proofs.Bools.{and-l, and-r, and-i, truly, is-true, is-false, not-false, not-e, lt-or-ge}
+use Rattle.meaning.proofs.Lists.{below-none, none-below, some-from, has-upTo-from}
+
+-- what acceptance says of a row that is not the root
+pub record Child (t : List ℕ) (i : ℕ) : Type 0 where
+  pub below : parentOf t i < i
+  pub reached : i ≤ end t (parentOf t i)
+  pub within : end t i ≤ end t (parentOf t i)
+  pub largest : (j : ℕ) → j < i → i ≤ end t j → j ≤ parentOf t i
+
+nearest-largest : (t : List ℕ) (i p : ℕ) → T (not (some (λ k. ltb p k && leb i (end t k)) (upTo i))) → (j : ℕ) → j < i → i ≤ end t j → j ≤ p
+nearest-largest t i p h j l k = elim (lt-or-ge p j) [
+  | inr m ↦ m
+  | inl m ↦ absurd (not-e (some (λ k. ltb p k && leb i (end t k)) (upTo i)) h
+      (some-from (λ k. ltb p k && leb i (end t k)) (upTo i) j (and-i (ltb p j) (leb i (end t j)) (lt→ltb p j m) (le→leb i (end t j) k)) (has-upTo-from i j l)))
+]
+
+-- what a row that is not broken says
+pub good-child : (t : List ℕ) (i : ℕ) → T (goodRow t i) → Child t i
+unfolding goodRow goodParent nearest
+good-child t i g =
+    let b : T (ltb (parentOf t i) i) = search (and-l, and-r) in
+    let r : T (leb i (end t (parentOf t i))) = search (and-l, and-r) in
+    let n : T (not (some (λ k. ltb (parentOf t i) k && leb i (end t k)) (upTo i))) = search (and-l, and-r) in
+    let w : T (leb (end t i) (end t (parentOf t i))) = search (and-l, and-r) in
+    record {
+      below = ltb→lt (parentOf t i) i b;
+      reached = leb→le i (end t (parentOf t i)) r;
+      within = leb→le (end t i) (end t (parentOf t i)) w;
+      largest = nearest-largest t i (parentOf t i) n;
+    }
+
+-- a table is accepted if its length is allowed and no row is broken
+pub accept : (t : List ℕ) → lengthAllowed t ≡ true → some (broken t) (upTo (rows t)) ≡ false → accepted t ≡ true
+unfolding accepted
+accept t h k = rw (h, k)
+
+module _ (t : List ℕ) (acc : accepted t ≡ true) where
+  pub allowed : T (lengthAllowed t)
+  unfolding accepted
+  allowed = and-l (lengthAllowed t) (not (some (broken t) (upTo (rows t)))) (truly acc)
+
+  pub whole : (i : ℕ) → i < rows t → broken t i ≡ false
+  unfolding accepted
+  whole = below-none (broken t) (rows t) (is-false (some (broken t) (upTo (rows t)))
+      (not-e (some (broken t) (upTo (rows t))) (and-r (lengthAllowed t) (not (some (broken t) (upTo (rows t)))) (truly acc))))
+
+  pub some-row : 0 < rows t
+  unfolding lengthAllowed
+  some-row =
+      let l : T (lengthAllowed t) = allowed in
+      let f : T (leb 1 (rows t)) = search (and-l, and-r) in
+      omega (arith, leb→le)
+
+  pub few-rows : rows t ≤ mostRows
+  unfolding lengthAllowed
+  few-rows =
+      let l : T (lengthAllowed t) = allowed in
+      let f : T (leb (rows t) mostRows) = search (and-l, and-r) in
+      leb→le (rows t) mostRows f
+
+  pub root-end : end t 0 ≡ rows t - 1
+  unfolding broken goodRoot
+  root-end =
+      let g : T (goodRoot t) = not-false (goodRoot t) (whole 0 some-row) in
+      let f : T (eqb (size t 0) (rows t - 1)) = search (and-l, and-r) in
+      omega (arith, eqb→eq (size t 0) (rows t - 1) f)
+
+  -- row 0's parent field is filler, and it is 0
+  pub root-parent : parentOf t 0 ≡ 0
+  unfolding broken goodRoot
+  root-parent =
+      let g : T (goodRoot t) = not-false (goodRoot t) (whole 0 some-row) in
+      let f : T (eqb (parentOf t 0) 0) = search (and-l, and-r) in
+      eqb→eq (parentOf t 0) 0 f
+
+  pub child : (i : ℕ) → 0 < i → i < rows t → Child t i
+  unfolding broken
+  child i p h =
+      let w : not (cond (eqb i 0) (goodRoot t) (goodRow t i)) ≡ false = whole i h in
+      good-child t i (not-false (goodRow t i) (rw (ne-eqb i 0 (λ e. omega arith)) at w))
+
+  -- each row's parent is a row
+  pub parent-below : (i : ℕ) → i < rows t → parentOf t i < rows t
+  parent-below zero h = omega (arith, root-parent)
+  parent-below (suc i) h = omega (arith, child (suc i) (omega arith) h .below)
+
+  nest-below : (n i j : ℕ) → j < n → j < rows t → i < j → j ≤ end t i → end t j ≤ end t i
+  nest-below zero i j b h l k = absurd (omega arith)
+  nest-below (suc n) i j b h l k =
+      let c : Child t j = child j (omega arith) h in
+      elim (eq-or-lt-of-le {n = i} {m = parentOf t j} (c .largest i l k)) [
+        | inl s ↦ omega (arith, subst (λ (m : ℕ). end t j ≤ end t m) (sym s) (c .within))
+        | inr m ↦ omega (arith, nest-below n i (parentOf t j) (omega arith) (omega arith) m (omega arith))
+      ]
+
+  -- a subtree that begins inside another ends inside it
+  pub nest : (i j : ℕ) → j < rows t → i < j → j ≤ end t i → end t j ≤ end t i
+  nest i j h l k = nest-below (suc j) i j (omega arith) h l k
+
+  -- subtrees nest or are disjoint
+  pub subtrees-nest : (i j : ℕ) → j < rows t → i < j → (end t j ≤ end t i) ⊎ (end t i < j)
+  subtrees-nest i j h l = elim (lt-or-ge (end t i) j) [
+    | inl m ↦ inr m
+    | inr m ↦ inl (nest i j h l m)
+  ]
+
+  -- a subtree ends in the table
+  pub end-below : (i : ℕ) → i < rows t → end t i < rows t
+  end-below zero h = omega (arith, root-end)
+  end-below (suc i) h = omega (arith, root-end, nest 0 (suc i) h (omega arith) (omega (arith, root-end)))

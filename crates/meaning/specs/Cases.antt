@@ -1,0 +1,127 @@
+-- The reference tree and R1 to R13 (document 01, "The reference tree"), as a single table under a single statement.
+-- Assumes nothing: each answer is computed from the definitions.
+use Prim.Native.Nat.{ℕ}
+use mathlib.Core.Path.{_≡_, refl}
+use mathlib.Core.List.{List, [], _∷_, _++_}
+use lib.ListN.{length, drop}
+use lib.Ieee.{Float, binary64, ofBits}
+use lib.Ieee as Ieee
+use Rattle.meaning.specs.Lists.{upTo, downFrom, keep, some, lowest}
+use Rattle.meaning.specs.Table.{lengthAllowed, goodRoot, goodName, goodSize, nearest, goodParent, goodRow, broken}
+use Rattle.meaning.specs.Axis.{axisOf, inside, on, testOf, passes, isReverse, ordered, candidates}
+use Rattle.meaning.specs.Rows.{pathLengthAllowed, badLiteral, badLiteralAt, opOf, fieldsOf, code, isNumber, isTruth, isPath, isStep, isPredicate, isLiteral, isUnknown, isLink, takes, mayMiss, goodLink, goodTest, goodField, goodFields, follow, firstLink, secondLink, links, linkedBelow, linksAgain, misplaced, brokenRow}
+use Rattle.meaning.specs.Tree.{indexOrAxis, testAt, linked, tree, depth}
+use Rattle.meaning.specs.Meaning.{float, nonzero, applied, keepAt, isAbsolute, startOf, union, value, select, walk, filtered}
+use Rattle.meaning.specs.Turning.{contextual, overPath, numeric, asks, counting, steps, counts, firstCounting, inverseOf, predicates, test, back, turned, weight, link, row, written}
+use Rattle.meaning.specs.Answers.{tableChecks, pathChecks, evaluation, output, evaluated, countingStep, absolutePath, turning, turnedOutput}
+use Rattle.meaning.specs.declared.Answer.{Answer}
+
+-- a row of a table, and a row of a path, before those behind it
+abbrev pub node : ℕ → ℕ → ℕ → ℕ → List ℕ → List ℕ
+node kind name parent size behind = kind ∷ name ∷ parent ∷ size ∷ behind
+
+abbrev pub line : ℕ → ℕ → ℕ → ℕ → ℕ → List ℕ → List ℕ
+line op a b c d behind = op ∷ a ∷ b ∷ c ∷ d ∷ behind
+
+abbrev pub reference : List ℕ
+reference =
+    node 0 0 0 9
+    (node 1 1 0 8
+    (node 1 2 1 3
+    (node 1 3 2 0
+    (node 1 3 2 0
+    (node 1 4 2 0
+    (node 1 2 1 3
+    (node 1 3 6 0
+    (node 1 4 6 0
+    (node 1 4 6 0
+    [])))))))))
+
+-- a path run on the reference tree from a node with the nodes that it selects, or a path turned with the rows that come out
+pub data Case : Type 0 where
+  selects : List ℕ → List Float → ℕ → List ℕ → Case
+  turns : List ℕ → List ℕ → Case
+
+-- what the output slice holds before the run
+abbrev pub blank : List ℕ
+blank = 99 ∷ 99 ∷ 99 ∷ 99 ∷ 99 ∷ 99 ∷ 99 ∷ 99 ∷ 99 ∷ 99 ∷ 99 ∷ 99 ∷ 99 ∷ 99 ∷ 99 ∷ 99 ∷ 99 ∷ 99 ∷ 99 ∷ 99 ∷ 99 ∷ []
+
+-- number, place and the output slice
+abbrev pub outcome : Answer → List ℕ → List ℕ
+outcome a out = a .number ∷ a .place ∷ out
+
+-- what the definitions give
+unfoldable pub given : Case → List ℕ
+given (selects p literals start nodes) =
+    outcome (evaluation reference p literals start (length blank)) (evaluated reference p literals start blank)
+given (turns p rows) = outcome (turning p [] (length blank)) (turnedOutput p [] blank)
+
+-- what document 01 lists
+unfoldable pub listed : Case → List ℕ
+listed (selects p literals start nodes) = 0 ∷ length nodes ∷ nodes ++ drop (length nodes) blank
+listed (turns p rows) = 0 ∷ 4 ∷ rows ++ drop (length rows) blank
+
+unfoldable pub each : (Case → List ℕ) → List Case → List (List ℕ)
+each f [] = []
+each f (c ∷ cs) = f c ∷ each f cs
+
+-- R13's two paths
+abbrev pub thirteenth : List ℕ
+thirteenth = line 24 0 0 1 18 (line 24 1 0 1 20 (line 22 2 0 0 0 []))
+
+abbrev pub thirteenthTurned : List ℕ
+thirteenthTurned = line 24 0 0 0 20 (line 24 1 0 2 18 (line 24 2 0 2 0 (line 22 3 0 0 0 [])))
+
+abbrev pub half : Float
+half = ofBits binary64 0x3FE0000000000000
+
+-- R1 from 5, / ; R2 from 8, preceding::node() ; R3 from 4, following::node()
+-- R4 from 9, ancestor::node()[3] ; R5 from 9, preceding::node()[1]
+-- R6 /descendant::*/descendant::*[position() > last()*0.5]
+-- R7 /descendant::4[1] ; R8 /descendant-or-self::node()/child::4[1]
+-- R9 from 6, child::*[1][2], child::*[position() > 1][1], child::*[position() > 1][last()]
+-- R10 from 1, child::*[count(child::4) = 2] ; R11 from 1, child::*[0 div 0 != 0 div 0]
+-- R12 from 1, parent::*, parent::node() ; R13 turned, from 1, and turned from 8
+abbrev pub cases : List Case
+cases =
+    selects (line 23 0 0 0 0 []) [] 5 (0 ∷ [])
+    ∷ selects (line 24 0 0 8 0 (line 22 1 0 0 0 [])) [] 8 (2 ∷ 3 ∷ 4 ∷ 5 ∷ 7 ∷ [])
+    ∷ selects (line 24 0 0 7 0 (line 22 1 0 0 0 [])) [] 4 (5 ∷ 6 ∷ 7 ∷ 8 ∷ 9 ∷ [])
+    ∷ selects (line 1 0 0 0 0 (line 25 0 1 0 0 (line 24 0 2 4 0 (line 22 3 0 0 0 [])))) (float 3 ∷ []) 9 (0 ∷ [])
+    ∷ selects (line 1 0 0 0 0 (line 25 0 1 0 0 (line 24 0 2 8 0 (line 22 3 0 0 0 [])))) (float 1 ∷ []) 9 (8 ∷ [])
+    ∷ selects
+    (line 24 0 0 3 1 (line 2 0 0 0 0 (line 3 0 0 0 0 (line 1 0 0 0 0 (line 6 3 4 0 0 (line 14 2 5 0 0
+    (line 25 0 6 0 0 (line 24 1 7 3 1 (line 23 8 0 0 0 [])))))))))
+    (half ∷ []) 0 (4 ∷ 5 ∷ 6 ∷ 7 ∷ 8 ∷ 9 ∷ [])
+    ∷ selects (line 1 0 0 0 0 (line 25 0 1 0 0 (line 24 0 2 3 20 (line 23 3 0 0 0 [])))) (float 1 ∷ []) 0 (5 ∷ [])
+    ∷ selects (line 24 0 0 5 0 (line 1 0 0 0 0 (line 25 0 2 0 0 (line 24 1 3 1 20 (line 23 4 0 0 0 []))))) (float 1 ∷ []) 0 (5 ∷ 8 ∷ [])
+    ∷ selects
+    (line 1 0 0 0 0 (line 25 0 1 0 0 (line 1 1 0 0 0 (line 25 2 3 0 0 (line 24 0 4 1 1 (line 22 5 0 0 0 []))))))
+    (float 1 ∷ float 2 ∷ []) 6 []
+    ∷ selects
+    (line 2 0 0 0 0 (line 1 0 0 0 0 (line 14 1 2 0 0 (line 25 0 3 0 0 (line 1 0 0 0 0 (line 25 4 5 0 0
+    (line 24 0 6 1 1 (line 22 7 0 0 0 []))))))))
+    (float 1 ∷ []) 6 (8 ∷ [])
+    ∷ selects
+    (line 2 0 0 0 0 (line 1 0 0 0 0 (line 14 1 2 0 0 (line 25 0 3 0 0 (line 3 0 0 0 0 (line 25 4 5 0 0
+    (line 24 0 6 1 1 (line 22 7 0 0 0 []))))))))
+    (float 1 ∷ []) 6 (9 ∷ [])
+    ∷ selects
+    (line 24 0 0 1 20 (line 22 1 0 0 0 (line 21 2 0 0 0 (line 1 0 0 0 0 (line 10 3 4 0 0 (line 25 0 5 0 0
+    (line 24 0 6 1 1 (line 22 7 0 0 0 []))))))))
+    (float 2 ∷ []) 1 (6 ∷ [])
+    ∷ selects
+    (line 1 0 0 0 0 (line 1 0 0 0 0 (line 7 1 2 0 0 (line 1 0 0 0 0 (line 1 0 0 0 0 (line 7 4 5 0 0
+    (line 11 3 6 0 0 (line 25 0 7 0 0 (line 24 0 8 1 1 (line 22 9 0 0 0 []))))))))))
+    (float 0 ∷ []) 1 (2 ∷ 6 ∷ [])
+    ∷ selects (line 24 0 0 2 1 (line 22 1 0 0 0 [])) [] 1 []
+    ∷ selects (line 24 0 0 2 0 (line 22 1 0 0 0 [])) [] 1 (0 ∷ [])
+    ∷ turns thirteenth thirteenthTurned
+    ∷ selects thirteenth [] 1 (5 ∷ 8 ∷ 9 ∷ [])
+    ∷ selects thirteenthTurned [] 8 (1 ∷ [])
+    ∷ []
+
+-- the definitions give what document 01 lists
+pub r1-to-r13 : each given cases ≡ each listed cases
+unfolding each given listed upTo downFrom keep some lowest lengthAllowed goodRoot goodName goodSize nearest goodParent goodRow broken axisOf inside on testOf passes isReverse ordered candidates pathLengthAllowed badLiteral badLiteralAt opOf fieldsOf code isNumber isTruth isPath isStep isPredicate isLiteral isUnknown isLink takes mayMiss goodLink goodTest goodField goodFields follow firstLink secondLink links linkedBelow linksAgain misplaced brokenRow indexOrAxis testAt linked tree depth float nonzero applied keepAt isAbsolute startOf union value select walk filtered contextual overPath numeric asks counting steps counts firstCounting inverseOf predicates test back turned weight link row written tableChecks pathChecks evaluation output evaluated countingStep absolutePath turning turnedOutput Ieee.isNan Ieee.toBits Ieee.ofBits Ieee.ofInt Ieee.eq Ieee.ne Ieee.lt Ieee.le Ieee.add Ieee.sub Ieee.mul Ieee.div Ieee.rem Ieee.neg
+r1-to-r13 = refl

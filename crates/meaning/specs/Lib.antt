@@ -1,0 +1,10 @@
+pub mod Lists
+pub mod Table
+pub mod Axis
+pub mod Rows
+pub mod Tree
+pub mod Meaning
+pub mod Turning
+pub mod View
+pub mod Answers
+pub mod Cases

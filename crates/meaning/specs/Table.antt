@@ -1,0 +1,72 @@
+-- The node table (document 01, "The node table"): four numbers a row; row i is node i, and row order is document order.
+-- Assumes nothing: these are definitions.
+use Prim.Native.Nat.{ℕ, _+_, _-_, _*_, _/_, _%_}
+use mathlib.Core.Bool.{Bool, true, _&&_, _||_, not, cond}
+use mathlib.Core.List.{List}
+use lib.ListN.{length, getD}
+use lib.Dec.{leb, ltb, eqb}
+use Rattle.meaning.specs.Lists.{upTo, some}
+
+-- the most rows of a table
+abbrev pub mostRows : ℕ
+mostRows = 4096
+
+-- kind, name, parent and size of row i; 0 past the end
+abbrev pub kind : List ℕ → ℕ → ℕ
+kind t i = getD t (4 * i) 0
+
+abbrev pub name : List ℕ → ℕ → ℕ
+name t i = getD t (4 * i + 1) 0
+
+abbrev pub parentOf : List ℕ → ℕ → ℕ
+parentOf t i = getD t (4 * i + 2) 0
+
+abbrev pub size : List ℕ → ℕ → ℕ
+size t i = getD t (4 * i + 3) 0
+
+abbrev pub rows : List ℕ → ℕ
+rows t = length t / 4
+
+-- 1 to 4,096 rows, and a multiple of 4
+unfoldable pub lengthAllowed : List ℕ → Bool
+lengthAllowed t = eqb (length t % 4) 0 && leb 1 (rows t) && leb (rows t) mostRows
+
+-- the last row of i's subtree: size is the number of descendants
+abbrev pub end : List ℕ → ℕ → ℕ
+end t i = i + size t i
+
+-- row 0: kind 0, name 0, parent 0, size rows minus 1
+unfoldable pub goodRoot : List ℕ → Bool
+goodRoot t = eqb (kind t 0) 0 && eqb (name t 0) 0 && eqb (parentOf t 0) 0 && eqb (size t 0) (rows t - 1)
+
+-- name is 1 to 65,535 for kinds 1 and 4, else 0
+unfoldable pub goodName : ℕ → ℕ → Bool
+goodName k n = cond (eqb k 1 || eqb k 4) (leb 1 n && leb n 65535) (eqb n 0)
+
+-- size is 0 for kinds 2, 3, 4
+unfoldable pub goodSize : ℕ → ℕ → Bool
+goodSize k s = eqb k 1 || eqb s 0
+
+-- is j the largest number below i with j + size(j) at least i?
+unfoldable pub nearest : List ℕ → ℕ → ℕ → Bool
+nearest t i j = ltb j i && leb i (end t j) && not (some (λ k. ltb j k && leb i (end t k)) (upTo i))
+
+-- parent is that j, and i + size(i) is at most j + size(j)
+unfoldable pub goodParent : List ℕ → ℕ → Bool
+goodParent t i = nearest t i (parentOf t i) && leb (end t i) (end t (parentOf t i))
+
+-- other rows: kinds 1 to 4
+unfoldable pub goodRow : List ℕ → ℕ → Bool
+goodRow t i =
+    leb 1 (kind t i) && leb (kind t i) 4
+    && goodName (kind t i) (name t i)
+    && goodSize (kind t i) (size t i)
+    && goodParent t i
+
+-- a row is broken if a rule for it fails
+unfoldable pub broken : List ℕ → ℕ → Bool
+broken t i = not (cond (eqb i 0) (goodRoot t) (goodRow t i))
+
+-- a table with no broken row is accepted
+unfoldable pub accepted : List ℕ → Bool
+accepted t = lengthAllowed t && not (some (broken t) (upTo (rows t)))

@@ -1,0 +1,21 @@
+// What a reader must believe: the types that document 01 names, and under specs/ the document as definitions.
+// The laws of the definitions stand under proofs/. Nothing here runs.
+
+// The value of an expression is either a truth or a number.
+pub enum Value {
+    Truth(bool),
+    Number(f64),
+}
+
+// The context of a predicate is a node, a position and a size.
+pub struct Context {
+    pub node: usize,
+    pub position: f64,
+    pub size: f64,
+}
+
+// What a public function gives back: document 01's number, and its place.
+pub struct Answer {
+    pub number: u32,
+    pub place: u32,
+}
