@@ -1,0 +1,51 @@
+// Total reads of a slice, and tests as values: what every other crate is written in.
+// Nothing here knows of tables or paths.
+ghost use mathlib.Core.Path.{_≡_};
+ghost use mathlib.Core.Bool.{_&&_, _||_};
+ghost use Prim.Native.Nat.{_<_};
+ghost use lib.Dec.{eqb, ltb, leb};
+ghost use lib.ListN.{getD};
+
+// A number of a slice as an index.
+pub fn wide(x: u32) -> usize
+    ensures { λ r. ⌜ (r ≡ x) × (r < 4294967296) ⌝ }
+{
+    x as usize
+}
+
+// What stands at i, or 0 past the end.
+pub fn entry(s: &[u32], i: usize) -> usize
+    ensures { λ r. ⌜ (r ≡ getD (now (s .entry)) i 0) × (r < 4294967296) ⌝ }
+{
+    if i < s.len() { wide(s[i]) } else { 0 }
+}
+
+pub fn both(a: bool, b: bool) -> bool
+    ensures { λ r. ⌜ r ≡ (a && b) ⌝ }
+{
+    if a { b } else { false }
+}
+
+pub fn either(a: bool, b: bool) -> bool
+    ensures { λ r. ⌜ r ≡ (a || b) ⌝ }
+{
+    if a { true } else { b }
+}
+
+pub fn same(a: usize, b: usize) -> bool
+    ensures { λ r. ⌜ r ≡ eqb a b ⌝ }
+{
+    a == b
+}
+
+pub fn below(a: usize, b: usize) -> bool
+    ensures { λ r. ⌜ r ≡ ltb a b ⌝ }
+{
+    a < b
+}
+
+pub fn at_most(a: usize, b: usize) -> bool
+    ensures { λ r. ⌜ r ≡ leb a b ⌝ }
+{
+    a <= b
+}
