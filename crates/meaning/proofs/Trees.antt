@@ -10,11 +10,11 @@ use lib.ListN.{length, getD, List·getD-eq-default}
 use lib.Dec.{leb, ltb, eqb}
 use lib.Ieee.{unlike}
 use native.Mathlib.Omega.{arith}
-use borrow.Author.Tests.{leb-true, leb-false, le-leb}
+use borrow.Author.Tests.{leb-true, le-leb, lt-leb, ne-eqb, eqb-true}
 use Rattle.meaning.specs.Lists.{upTo, some}
 use Rattle.meaning.specs.Axis.{Axis, axisOf}
 use Rattle.meaning.specs.Axis as A
-use Rattle.meaning.specs.Rows.{Op, opOf, opAt, field, fieldsOf, isLink, follow, firstLink, secondLink}
+use Rattle.meaning.specs.Rows.{Op, code, opOf, opAt, field, fieldsOf, isLink, follow, firstLink, secondLink}
 use Rattle.meaning.specs.Rows as R
 use Rattle.meaning.specs.Tree.{Tree, none, node, indexOrAxis, testAt, linked, tree}
 use Rattle.meaning.proofs.Bools.{lt-or-ge}
@@ -43,6 +43,33 @@ agree f g n h past k = elim (lt-or-ge k n) [
   | inl l ↦ alike (f k) (g k) (below-none (λ k. unlike (f k) (g k)) n h k l)
   | inr l ↦ past k l
 ]
+
+-- the number of a decoded op
+pub code-of : (n : ℕ) → n ≤ 25 → code (opOf n) ≡ n
+unfolding code opOf some upTo
+code-of n h = eqb-true (code (opOf n)) n (alike (eqb (code (opOf n)) n) true
+    (below-none (λ k. unlike (eqb (code (opOf k)) k) true) 26 refl n (omega arith)))
+
+-- an op is told by its number
+pub op-is : (k n : ℕ) → 0 < k → k ≤ 25 → eqb (code (opOf n)) k ≡ eqb n k
+op-is k n p q = elim (lt-or-ge 25 n) [
+  | inr l ↦ rw (code-of n l)
+  | inl l ↦ ap (λ (o : Op). eqb (code o) k) (op-past n l) ∙ ne-eqb (code R.unknown) k (λ e. omega (arith, unknown-code)) ∙ sym (ne-eqb n k (λ e. omega arith))
+]
+  where
+    unknown-code : code R.unknown ≡ 0
+    unknown-code = unfold code in refl
+
+-- which ops have a link in field a, and in field b
+pub first-ops : (n : ℕ) → isLink (fieldsOf (opOf n) .a) ≡ (leb 4 n && leb n 25)
+unfolding opOf fieldsOf isLink some upTo
+first-ops = agree (λ n. isLink (fieldsOf (opOf n) .a)) (λ n. leb 4 n && leb n 25) 26 refl
+    (λ n h. rw (op-past n h, le-leb 4 n (omega arith), lt-leb n 25 h))
+
+pub second-ops : (n : ℕ) → isLink (fieldsOf (opOf n) .b) ≡ (((leb 4 n && leb n 8) || (leb 10 n && leb n 17)) || (eqb n 24 || eqb n 25))
+unfolding opOf fieldsOf isLink some upTo
+second-ops = agree (λ n. isLink (fieldsOf (opOf n) .b)) (λ n. ((leb 4 n && leb n 8) || (leb 10 n && leb n 17)) || (eqb n 24 || eqb n 25)) 26 refl
+    (λ n h. rw (op-past n h, le-leb 4 n (omega arith), lt-leb n 8 (omega arith), le-leb 10 n (omega arith), lt-leb n 17 (omega arith), ne-eqb n 24 (λ e. omega arith), ne-eqb n 25 (λ e. omega arith)))
 
 -- ---- links
 
