@@ -32,8 +32,8 @@ inverse-axis t A.descendant-or-self x y = rw (eqb-sym x y)
 inverse-axis t A.ancestor-or-self x y = rw (eqb-sym x y)
 inverse-axis t A.following x y = refl
 inverse-axis t A.preceding x y = refl
-inverse-axis t A.following-sibling x y = rw (eqb-sym (parentOf t x) (parentOf t y))
-inverse-axis t A.preceding-sibling x y = rw (eqb-sym (parentOf t x) (parentOf t y))
+inverse-axis t A.following-sibling x y = refl
+inverse-axis t A.preceding-sibling x y = refl
 
 -- is y the parent of x, or its parent's parent, and so on, k steps at most?
 unfoldable pub above : List ℕ → ℕ → ℕ → ℕ → Bool

@@ -3,3 +3,6 @@ pub mod Lists
 pub mod Tables
 pub mod Axes
 pub mod Trees
+pub mod Applied
+pub mod Free
+pub mod Turning

@@ -33,6 +33,12 @@ some-from p (x ∷ xs) z h k = or-e (eqb z x) (some (eqb z) xs) k
     (λ e. or-i-l (p x) (some p xs) (subst (λ (w : ℕ). T (p w)) (eqb→eq z x e) h))
     (λ m. or-i-r (p x) (some p xs) (some-from p xs z h m))
 
+-- tests that agree hold at some member alike
+pub some-same : (p q : ℕ → Bool) (l : List ℕ) → ((x : ℕ) → p x ≡ q x) → some p l ≡ some q l
+unfolding some
+some-same p q [] h = refl
+some-same p q (x ∷ xs) h = rw (h x, some-same p q xs h)
+
 has-cond : (b : Bool) (x : ℕ) (l : List ℕ) (y : ℕ) → has (cond b (x ∷ l) l) y ≡ ((b && eqb y x) || has l y)
 unfolding some
 has-cond true x l y = refl

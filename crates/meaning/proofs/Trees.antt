@@ -1,10 +1,10 @@
 -- Laws of decoding and of the tree that rows stand for: `tree-row` is the only unfolding of a tree that proofs use,
 -- and the fuel of the reading does not matter, since a link names a lower row.
 -- Assumes nothing.
-use Prim.Native.Nat.{ℕ, zero, suc, _+_, _-_, _*_, _<_, _≤_}
+use Prim.Native.Nat.{ℕ, zero, suc, _+_, _-_, _*_, _%_, _<_, _≤_, zero-le, suc-le-suc}
 use mathlib.Core.Path.{_≡_, refl, sym, ap, _∙_}
 use mathlib.Core.Logic.{_⊎_, inl, inr}
-use mathlib.Core.Bool.{Bool, true, false, _||_, _&&_, not, cond, true≢false}
+use mathlib.Core.Bool.{Bool, true, false, _||_, _&&_, not, cond, and-false, true≢false}
 use mathlib.Core.List.{List, [], _∷_}
 use lib.ListN.{length, getD, List·getD-eq-default}
 use lib.Dec.{leb, ltb, eqb}
@@ -12,7 +12,7 @@ use lib.Ieee.{unlike}
 use native.Mathlib.Omega.{arith}
 use borrow.Author.Tests.{leb-true, le-leb, lt-leb, ne-eqb, eqb-true}
 use Rattle.meaning.specs.Lists.{upTo, some}
-use Rattle.meaning.specs.Axis.{Axis, axisOf}
+use Rattle.meaning.specs.Axis.{Axis, axisOf, isReverse, testOf}
 use Rattle.meaning.specs.Axis as A
 use Rattle.meaning.specs.Rows.{Op, code, opOf, opAt, field, fieldsOf, isLink, follow, firstLink, secondLink}
 use Rattle.meaning.specs.Rows as R
@@ -30,6 +30,25 @@ op-past n h = List·getD-eq-default R.ops R.unknown h
 pub axis-past : (n : ℕ) → 10 < n → axisOf n ≡ A.self
 unfolding axisOf
 axis-past n h = List·getD-eq-default A.axes A.self h
+
+-- a number from k on that is not k is above it
+pub past : (k n : ℕ) → k ≤ n → (n ≡ k → ⊥) → k < n
+past k n h f = omega arith
+
+-- an axis that is none of 1 to 10 reads as self
+pub axis-rest : (n : ℕ) → (n ≡ 1 → ⊥) → (n ≡ 2 → ⊥) → (n ≡ 3 → ⊥) → (n ≡ 4 → ⊥) → (n ≡ 5 → ⊥) → (n ≡ 6 → ⊥) → (n ≡ 7 → ⊥) → (n ≡ 8 → ⊥) → (n ≡ 9 → ⊥) → (n ≡ 10 → ⊥) → axisOf n ≡ A.self
+axis-rest zero n1 n2 n3 n4 n5 n6 n7 n8 n9 n10 = unfold axisOf in refl
+axis-rest (suc n) n1 n2 n3 n4 n5 n6 n7 n8 n9 n10 =
+    let m : ℕ = suc n in
+    axis-past m (past 10 m (past 9 m (past 8 m (past 7 m (past 6 m (past 5 m (past 4 m (past 3 m (past 2 m (past 1 m first n1) n2) n3) n4) n5) n6) n7) n8) n9) n10)
+  where
+    first : 1 ≤ suc n
+    first = suc-le-suc zero-le
+
+-- a test that is none of 0 to 4 asks for a name
+pub test-rest : (n : ℕ) → (n ≡ 0 → ⊥) → (n ≡ 1 → ⊥) → (n ≡ 2 → ⊥) → (n ≡ 3 → ⊥) → (n ≡ 4 → ⊥) → testOf n ≡ A.element (n - 16)
+unfolding testOf
+test-rest n n0 n1 n2 n3 n4 = rw (lt-leb n 4 (past 4 n (past 3 n (past 2 n (past 1 n (past 0 n zero-le n0) n1) n2) n3) n4))
 
 alike : (a b : Bool) → unlike a b ≡ false → a ≡ b
 alike true true h = refl
@@ -70,6 +89,12 @@ pub second-ops : (n : ℕ) → isLink (fieldsOf (opOf n) .b) ≡ (((leb 4 n && l
 unfolding opOf fieldsOf isLink some upTo
 second-ops = agree (λ n. isLink (fieldsOf (opOf n) .b)) (λ n. ((leb 4 n && leb n 8) || (leb 10 n && leb n 17)) || (eqb n 24 || eqb n 25)) 26 refl
     (λ n h. rw (op-past n h, le-leb 4 n (omega arith), lt-leb n 8 (omega arith), le-leb 10 n (omega arith), lt-leb n 17 (omega arith), ne-eqb n 24 (λ e. omega arith), ne-eqb n 25 (λ e. omega arith)))
+
+-- the axes that run against document order
+pub reverse-axes : (n : ℕ) → isReverse (axisOf n) ≡ (eqb (n % 2) 0 && (ltb 0 n && leb n 10))
+unfolding axisOf isReverse some upTo
+reverse-axes = agree (λ n. isReverse (axisOf n)) (λ n. eqb (n % 2) 0 && (ltb 0 n && leb n 10)) 11 refl
+    (λ n h. rw (axis-past n h, lt-leb n 10 h, and-false (ltb 0 n), and-false (eqb (n % 2) 0)))
 
 -- ---- links
 

@@ -37,7 +37,11 @@ on t ancestor-or-self x y = eqb x y || inside t y x
 on t following x y = ltb x y && not (inside t x y)
 on t preceding x y = ltb y x && not (inside t y x)
 on t following-sibling x y = ltb 0 x && ltb x y && eqb (parentOf t x) (parentOf t y)
-on t preceding-sibling x y = ltb 0 y && ltb y x && eqb (parentOf t x) (parentOf t y)
+on t preceding-sibling x y = ltb 0 y && ltb y x && eqb (parentOf t y) (parentOf t x)
+
+-- the same with the axis by its number; no axis has a number above 10
+unfoldable pub onAxis : List ℕ → ℕ → ℕ → ℕ → Bool
+onAxis t n x y = leb n 10 && on t (axisOf n) x y
 
 pub data Test : Type 0 where
   any-node any-element text comment instruction : Test

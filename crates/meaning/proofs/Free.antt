@@ -1,0 +1,93 @@
+-- Independence of the position: an expression that does not ask for position and size has one value at a node, so predicates
+-- that do not count filter node by node. By induction over the tree, each op taking only what it takes.
+-- Assumes nothing.
+use Prim.Native.Nat.{ℕ, _<_}
+use mathlib.Core.Path.{_≡_, refl, sym, ap, _∙_}
+use mathlib.Core.Bool.{Bool, true, false, _&&_, _||_, not, true≢false}
+use mathlib.Core.List.{List}
+use lib.ListN.{length}
+use lib.Dec.{T}
+use lib.Ieee.{Float}
+use Rattle.meaning.specs.Lists.{keep, some, has, upTo}
+use Rattle.meaning.specs.Table.{rows}
+use Rattle.meaning.specs.Axis.{Axis, Test, axisOf, testOf, on, passes, candidates}
+use Rattle.meaning.specs.Rows.{Op}
+use Rattle.meaning.specs.Tree.{Tree, none, node}
+use Rattle.meaning.specs.Meaning.{float, truthOf, holds, value, select, walk, filtered, union}
+use Rattle.meaning.specs.Turning.{contextual, overPath, numeric, asks, counting}
+use Rattle.meaning.specs.declared.Context.{Context}
+use Rattle.meaning.proofs.Bools.{and-l, and-r, and-i, or-none-l, or-none-r, same}
+use Rattle.meaning.proofs.Lists.{some-same, has-keep-to, has-keep-from, keep-upTo, keep-all, keep-keep, keepAt-free}
+use Rattle.meaning.proofs.Axes.{candidate-to, candidate-from}
+use Rattle.meaning.proofs.Applied.{takesFirst, second-first, operands-no-path, applied-agrees, applied-truth}
+
+-- the context of a node, its position and size left open
+abbrev pub at : ℕ → Float → Float → Context
+at y p s = record { node = y; position = p; size = s }
+
+module _ (t : List ℕ) (literals : List Float) where
+  -- an expression that does not ask for position and size has the same value at each of them
+  pub positions-do-not-matter : (e : Tree) → asks e ≡ false → (y : ℕ) (p s q r : Float) → value t literals e (at y p s) ≡ value t literals e (at y q r)
+  unfolding value asks
+  positions-do-not-matter none h y p s q r = refl
+  positions-do-not-matter (node op a b c d) h y p s q r =
+      let n : ℕ = length (select t literals a y) in
+      let parts : takesFirst op ≡ true → (asks a || asks b) ≡ false = λ f. rw (operands-no-path op f) at (or-none-r (contextual op) (not (overPath op) && (asks a || asks b)) h) in
+      applied-agrees literals c (value t literals a (at y p s)) (value t literals b (at y p s)) (value t literals a (at y q r)) (value t literals b (at y q r)) n n (at y p s) (at y q r) op
+      (λ f. positions-do-not-matter a (or-none-l (asks a) (asks b) (parts f)) y p s q r)
+      (λ f. positions-do-not-matter b (or-none-r (asks a) (asks b) (parts (second-first op f))) y p s q r)
+      (λ f. refl)
+      (λ f. absurd (true≢false (sym f ∙ or-none-l (contextual op) (not (overPath op) && (asks a || asks b)) h)))
+
+  -- an expression that is not a number is a truth
+  holds-truth : (e : Tree) → numeric e ≡ false → (x : Context) (p : Float) → holds (value t literals e x) p ≡ truthOf (value t literals e x)
+  unfolding value numeric
+  holds-truth none h x p = refl
+  holds-truth (node op a b c d) h x p = applied-truth literals c (value t literals a x) (value t literals b x) (length (select t literals a (x .node))) x p op h
+
+  -- does an expression that does not count hold at a node?
+  abbrev pub true-at : Tree → ℕ → Bool
+  true-at e y = truthOf (value t literals e (at y (float 0) (float 0)))
+
+  -- do all predicates of a chain hold at a node, whatever its position?
+  unfoldable pub ok : Tree → ℕ → Bool
+  ok none y = true
+  ok (node op a b c d) y = ok a y && true-at b y
+
+  -- predicates that do not count filter node by node
+  pub filtered-free : (e : Tree) → counting e ≡ false → (l : List ℕ) → filtered t literals e l ≡ keep (ok e) l
+  unfolding filtered ok counting
+  filtered-free none h l = sym (keep-all l)
+  filtered-free (node op a b c d) h l =
+      let g : numeric b || asks b ≡ false = or-none-r (counting a) (numeric b || asks b) h in
+      let kept : List ℕ = filtered t literals a l in
+      let size : Float = float (length kept) in
+      keepAt-free (λ y i. holds (value t literals b (at y (float i) size)) (float i)) (true-at b)
+      (λ y i. holds-truth b (or-none-l (numeric b) (asks b) g) (at y (float i) size) (float i)
+      ∙ ap truthOf (positions-do-not-matter b (or-none-r (numeric b) (asks b) g) y (float i) size (float 0) (float 0))) 1 kept
+      ∙ ap (keep (true-at b)) (filtered-free a (or-none-l (counting a) (numeric b || asks b) h) l)
+      ∙ keep-keep (ok a) (true-at b) l
+
+  -- does a node pass a test and all predicates of a chain?
+  abbrev pub fits : Test → Tree → ℕ → Bool
+  fits u e y = passes t u y && ok e y
+
+  -- a step that does not count reaches what is on the axis, passes the test and holds
+  pub free-step : (a : Axis) (u : Test) (e : Tree) (x y : ℕ) → counting e ≡ false → y < rows t → has (filtered t literals e (candidates t a u x)) y ≡ (on t a x y && fits u e y)
+  free-step a u e x y h l =
+      ap (λ (l : List ℕ). has l y) (filtered-free e h (candidates t a u x))
+      ∙ same (has (keep (ok e) (candidates t a u x)) y) (on t a x y && fits u e y)
+      (λ k.
+      let f : T (ok e y) × T (has (candidates t a u x) y) = has-keep-to (ok e) (candidates t a u x) y k in
+      let g : T (on t a x y) × T (passes t u y) × (y < rows t) = candidate-to t a u x y (f .1) in
+      and-i (on t a x y) (fits u e y) (g .0) (and-i (passes t u y) (ok e y) (g .1) (f .0)))
+      (λ k.
+      let f : T (fits u e y) = and-r (on t a x y) (fits u e y) k in
+      has-keep-from (ok e) (candidates t a u x) y (and-r (passes t u y) (ok e y) f)
+      (candidate-from t a u x y (and-l (on t a x y) (fits u e y) k) (and-l (passes t u y) (ok e y) f) l))
+
+  -- the same of the last step of a chain, from a set
+  pub free-walk : (op : Op) (a b : Tree) (c d : ℕ) (set : List ℕ) → counting b ≡ false
+      → walk t literals (node op a b c d) set ≡ keep (λ y. some (λ x. on t (axisOf c) x y && fits (testOf d) b y) (walk t literals a set)) (upTo (rows t))
+  unfolding walk union
+  free-walk op a b c d set h = keep-upTo _ _ (rows t) (λ y l. some-same _ _ (walk t literals a set) (λ x. free-step (axisOf c) (testOf d) b x y h l))

@@ -1,0 +1,26 @@
+-- `table::axes::is_inside` meets its contract: by what its reads gave.
+-- Assumes nothing.
+use borrow.Author.Needs.{needs}
+use Rattle.meaning.specs.Axis as A
+use Rattle.table.proofs.axes.is_inside.Statement.{statement}
+use Rattle.table.proofs.axes.is_inside.Tie as tie
+
+below-requires : tie.Need-below-requires
+below-requires c κs = search needs
+
+end-at-requires : tie.Need-end-at-requires
+end-at-requires c κs = search needs
+
+at-most-requires : tie.Need-at-most-requires
+at-most-requires c κs = search needs
+
+both-requires : tie.Need-both-requires
+both-requires c κs = search needs
+
+returns : tie.Need-returns
+unfolding A.inside
+returns c = rw (c .both .ensures, c .before .at-most .ensures, c .before .before .end-at .ensures .0, c .before .before .before .below .ensures)
+
+pub is-inside-spec : {M : Type 1} → statement M
+is-inside-spec =
+    tie.close (tie.spec below-requires end-at-requires at-most-requires both-requires returns)
