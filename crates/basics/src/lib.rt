@@ -1,10 +1,12 @@
-// Total reads of a slice, and tests as values: what every other crate is written in.
+// Total reads of a slice, tests as values, and answers: what every other crate is written in.
 // Nothing here knows of tables or paths.
+use meaning::Answer;
 ghost use mathlib.Core.Path.{_≡_};
 ghost use mathlib.Core.Bool.{_&&_, _||_};
 ghost use Prim.Native.Nat.{_<_};
 ghost use lib.Dec.{eqb, ltb, leb};
 ghost use lib.ListN.{getD};
+ghost use Rattle.meaning.specs.Answers.{answer};
 
 // A number of a slice as an index.
 pub fn wide(x: u32) -> usize
@@ -48,4 +50,15 @@ pub fn at_most(a: usize, b: usize) -> bool
     ensures { λ r. ⌜ r ≡ leb a b ⌝ }
 {
     a <= b
+}
+
+// A number and its place.
+pub fn given(number: u32, place: usize) -> Answer
+    requires { ⌜ place < 4294967296 ⌝ }
+    ensures { λ r. ⌜ r ≡ answer number place ⌝ }
+{
+    Answer {
+        number,
+        place: place as u32,
+    }
 }

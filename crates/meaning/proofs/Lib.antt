@@ -6,3 +6,4 @@ pub mod Trees
 pub mod Applied
 pub mod Free
 pub mod Turning
+pub mod Checks

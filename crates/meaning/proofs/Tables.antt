@@ -22,7 +22,8 @@ pub record Child (t : List ℕ) (i : ℕ) : Type 0 where
   pub within : end t i ≤ end t (parentOf t i)
   pub largest : (j : ℕ) → j < i → i ≤ end t j → j ≤ parentOf t i
 
-nearest-largest : (t : List ℕ) (i p : ℕ) → T (not (some (λ k. ltb p k && leb i (end t k)) (upTo i))) → (j : ℕ) → j < i → i ≤ end t j → j ≤ p
+-- nobody larger than the nearest reaches
+pub nearest-largest : (t : List ℕ) (i p : ℕ) → T (not (some (λ k. ltb p k && leb i (end t k)) (upTo i))) → (j : ℕ) → j < i → i ≤ end t j → j ≤ p
 nearest-largest t i p h j l k = elim (lt-or-ge p j) [
   | inr m ↦ m
   | inl m ↦ absurd (not-e (some (λ k. ltb p k && leb i (end t k)) (upTo i)) h

@@ -1,6 +1,7 @@
 // Reads of a node table's rows, each equal to its definition (document 01, "The node table").
 // The axes and the node test stand in axes.rt, the checker in check.rt.
 pub mod axes;
+pub mod check;
 
 use basics::entry;
 ghost use mathlib.Core.Path.{_≡_};

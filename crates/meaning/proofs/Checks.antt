@@ -1,0 +1,209 @@
+-- Laws of the checks: sorts of rows told by their op's number, the search for the lowest number that fails, links of lower
+-- rows, depth row by row, and how the checks of tables and of paths stand before what follows them.
+-- Assumes nothing.
+use Prim.Native.Nat.{ℕ, zero, suc, _+_, _<_, _≤_, max}
+use mathlib.Core.Path.{_≡_, refl, sym, ap, _∙_}
+use mathlib.Core.Logic.{⊎-elim}
+use mathlib.Core.Bool.{Bool, true, false, _||_, _&&_, not, cond}
+use mathlib.Core.List.{List}
+use lib.ListN.{length}
+use lib.Dec.{leb, ltb, eqb}
+use lib.Ieee.{Float}
+use native.Mathlib.Omega.{arith}
+use native.Mathlib.Nat.{max-le}
+use native.Mathlib.Numerals.{add-one}
+use borrow.Author.Tests.{le-leb, lt-leb, lt-ltb, le-ltb, ne-eqb, ltb-false}
+use Rattle.meaning.specs.Lists.{upTo, some, lowest}
+use Rattle.meaning.specs.Table.{rows, lengthAllowed, broken, accepted}
+use Rattle.meaning.specs.Rows.{Op, code, opOf, opAt, rowsOf, firstLink, secondLink, links, linkedBelow, isNumber, isTruth, isPath, isStep, isPredicate, isUnknown, pathLengthAllowed, badLiteralAt, brokenRow}
+use Rattle.meaning.specs.Rows as R
+use Rattle.meaning.specs.Tree.{none, linked, tree, depth, mostDepth}
+use Rattle.meaning.specs.Answers.{answer, check, tableChecks, tableAnswer, pathChecks, pathAnswer, pathTree}
+use Rattle.meaning.specs.declared.Answer.{Answer}
+use Rattle.meaning.proofs.Bools.{lt-or-ge}
+use Rattle.meaning.proofs.Lists.{some-last, lowest-is, lowest-some}
+use Rattle.meaning.proofs.Trees.{agree, op-past, op-is, tree-suc}
+
+-- ---- the sorts of rows, by op
+
+pub number-ops : (n : ℕ) → isNumber (opOf n) ≡ ((leb 1 n && leb n 9) || eqb n 21)
+unfolding opOf code isNumber some upTo
+number-ops = agree (λ n. isNumber (opOf n)) (λ n. (leb 1 n && leb n 9) || eqb n 21) 26 refl
+    (λ n h. rw (op-past n h, le-leb 1 n (omega arith), lt-leb n 9 (omega arith), ne-eqb n 21 (λ e. omega arith)))
+
+pub truth-ops : (n : ℕ) → isTruth (opOf n) ≡ (leb 10 n && leb n 20)
+unfolding opOf code isTruth some upTo
+truth-ops = agree (λ n. isTruth (opOf n)) (λ n. leb 10 n && leb n 20) 26 refl
+    (λ n h. rw (op-past n h, le-leb 10 n (omega arith), lt-leb n 20 (omega arith)))
+
+pub path-ops : (n : ℕ) → isPath (opOf n) ≡ (eqb n 22 || eqb n 23)
+unfolding isPath
+path-ops n = rw (op-is 22 n (omega arith) (omega arith), op-is 23 n (omega arith) (omega arith))
+
+pub step-op : (n : ℕ) → isStep (opOf n) ≡ eqb n 24
+unfolding isStep
+step-op n = op-is 24 n (omega arith) (omega arith)
+
+pub predicate-op : (n : ℕ) → isPredicate (opOf n) ≡ eqb n 25
+unfolding isPredicate
+predicate-op n = op-is 25 n (omega arith) (omega arith)
+
+pub unknown-ops : (n : ℕ) → isUnknown (opOf n) ≡ (eqb n 0 || ltb 25 n)
+unfolding opOf code isUnknown some upTo
+unknown-ops = agree (λ n. isUnknown (opOf n)) (λ n. eqb n 0 || ltb 25 n) 26 refl
+    (λ n h. rw (op-past n h, ne-eqb n 0 (λ e. omega arith), lt-ltb 25 n h))
+
+-- ---- the search for the lowest number at which a test holds
+
+-- the test fails at each number below i
+unfoldable pub Passed : (ℕ → Bool) → ℕ → Type 0
+Passed f i = (j : ℕ) → j < i → f j ≡ false
+
+module _ (f : ℕ → Bool) where
+  pub passed-start : Passed f 0
+  unfolding Passed
+  passed-start j h = absurd (omega arith)
+
+  pub passed-more : (i : ℕ) → Passed f i → f i ≡ false → Passed f (i + 1)
+  unfolding Passed
+  passed-more i h e j l = ⊎-elim (λ b. h j b) (λ b. let s : j ≡ i = omega arith in ap f s ∙ e) (lt-or-ge j i)
+
+  pub passed-found : (n i : ℕ) → Passed f i → i < n → f i ≡ true → i ≡ lowest f n
+  unfolding Passed
+  passed-found n i h l e = sym (lowest-is f n i (omega arith) h (λ _. e))
+
+  pub passed-all : (n i : ℕ) → Passed f i → i ≡ n → i ≡ lowest f n
+  unfolding Passed
+  passed-all n i h e = sym (lowest-is f n i (omega arith) h (λ l. absurd (omega arith)))
+
+-- ---- links of lower rows
+
+pub linked-none : (p : List ℕ) (l : ℕ) → linkedBelow p 0 l ≡ false
+unfolding linkedBelow some upTo
+linked-none p l = refl
+
+pub linked-more : (p : List ℕ) (n l : ℕ) → linkedBelow p (n + 1) l ≡ (linkedBelow p n l || links p n l)
+unfolding linkedBelow
+linked-more p n l = rw (add-one n) (some-last (λ r. links p r l) n)
+
+-- ---- depth
+
+pub depth-zero : (p : List ℕ) → depth (tree p 0) ≡ 0
+unfolding tree linked depth
+depth-zero p = refl
+
+-- a row's depth is made of its links' depths
+pub depth-row : (p : List ℕ) (r : ℕ) → depth (tree p (r + 1)) ≡ max (depth (tree p (firstLink p r))) (depth (tree p (secondLink p r))) + cond (isPath (opAt p r)) 1 0
+unfolding depth
+depth-row p r = rw (add-one r, tree-suc p r)
+
+one-or-none : (b : Bool) → cond b 1 0 ≤ 1
+one-or-none true = omega arith
+one-or-none false = omega arith
+
+linked-depth : (f : ℕ) (p : List ℕ) (l : ℕ) → depth (linked f p l) ≤ f
+unfolding linked depth
+linked-depth zero p l = omega arith
+linked-depth (suc f) p zero = omega arith
+linked-depth (suc f) p (suc r) =
+    let h : max (depth (linked f p (firstLink p r))) (depth (linked f p (secondLink p r))) ≤ f = max-le (linked-depth f p (firstLink p r)) (linked-depth f p (secondLink p r)) in
+    omega (arith, one-or-none (isPath (opAt p r)))
+
+-- a tree is no deeper than its link
+pub depth-le : (p : List ℕ) (l : ℕ) → depth (tree p l) ≤ l
+unfolding tree
+depth-le p l = linked-depth l p l
+
+-- ---- checks before what follows
+
+-- checks before a last answer: where that gives 0 they let everything through, else they give the same whatever follows
+abbrev Guards : (Answer → Answer) → Answer → Type 0
+Guards checks last =
+    (checks last .number ≡ 0 → (next : Answer) → checks next ≡ next)
+    × ((checks last .number ≡ 0 → ⊥) → (next : Answer) → checks next ≡ checks last)
+
+guards-none : (place : ℕ) → Guards (λ next. next) (answer 0 place)
+guards-none place = (λ e next. refl, λ f next. absurd (f refl))
+
+guards-more : (c : Bool) (number place : ℕ) (rest : Answer → Answer) (last : Answer) → 0 < number → Guards rest last → Guards (λ next. check c number place (rest next)) last
+guards-more true number place rest last h g = (λ e next. absurd (omega arith), λ f next. refl)
+guards-more false number place rest last h g = g
+
+table-guards : (t : List ℕ) → Guards (tableChecks t) (answer 0 (rows t))
+unfolding tableChecks
+table-guards t =
+    guards-more (not (lengthAllowed t)) 1 0 _ _ (omega arith)
+    (guards-more (some (broken t) (upTo (rows t))) 2 (lowest (broken t) (rows t)) _ _ (omega arith)
+    (guards-none (rows t)))
+
+path-guards : (p : List ℕ) (literals : List Float) → Guards (pathChecks p literals) (answer 0 (rowsOf p))
+unfolding pathChecks
+path-guards p literals =
+    guards-more (not (pathLengthAllowed p)) 3 0 _ _ (omega arith)
+    (guards-more (some (badLiteralAt literals) (upTo (length literals))) 4 (lowest (badLiteralAt literals) (length literals)) _ _ (omega arith)
+    (guards-more (some (brokenRow p (length literals)) (upTo (rowsOf p))) 5 (lowest (brokenRow p (length literals)) (rowsOf p)) _ _ (omega arith)
+    (guards-more (ltb mostDepth (depth (pathTree p))) 6 0 _ _ (omega arith)
+    (guards-none (rowsOf p)))))
+
+-- a table whose answer is 0 passes, one with another answer has that answer whatever follows
+pub table-passes : (t : List ℕ) → tableAnswer t .number ≡ 0 → (next : Answer) → tableChecks t next ≡ next
+unfolding tableAnswer
+table-passes t = table-guards t .0
+
+pub table-stops : (t : List ℕ) → (tableAnswer t .number ≡ 0 → ⊥) → (next : Answer) → tableChecks t next ≡ tableAnswer t
+unfolding tableAnswer
+table-stops t = table-guards t .1
+
+-- the same of a path
+pub path-passes : (p : List ℕ) (literals : List Float) → pathAnswer p literals .number ≡ 0 → (next : Answer) → pathChecks p literals next ≡ next
+unfolding pathAnswer
+path-passes p literals = path-guards p literals .0
+
+pub path-stops : (p : List ℕ) (literals : List Float) → (pathAnswer p literals .number ≡ 0 → ⊥) → (next : Answer) → pathChecks p literals next ≡ pathAnswer p literals
+unfolding pathAnswer
+path-stops p literals = path-guards p literals .1
+
+-- a check in front of a 0 does not apply
+clear : (c : Bool) (number place : ℕ) (rest : Answer) → 0 < number → check c number place rest .number ≡ 0 → (c ≡ false) × (rest .number ≡ 0)
+clear true number place rest h e = absurd (omega arith)
+clear false number place rest h e = (refl, e)
+
+not-not : (b : Bool) → not b ≡ false → b ≡ true
+not-not true e = refl
+not-not false e = sym e
+
+-- a table whose answer is 0 is accepted
+pub table-accepted : (t : List ℕ) → tableAnswer t .number ≡ 0 → accepted t ≡ true
+unfolding tableAnswer tableChecks accepted
+table-accepted t e =
+    let a = clear (not (lengthAllowed t)) 1 0 _ (omega arith) e in
+    let b = clear (some (broken t) (upTo (rows t))) 2 (lowest (broken t) (rows t)) _ (omega arith) (a .1) in
+    rw (not-not (lengthAllowed t) (a .0), b .0)
+
+-- of a path whose answer is 0 no check applies
+pub path-accepted : (p : List ℕ) (literals : List Float) → pathAnswer p literals .number ≡ 0
+    → (pathLengthAllowed p ≡ true)
+    × (some (badLiteralAt literals) (upTo (length literals)) ≡ false)
+    × (some (brokenRow p (length literals)) (upTo (rowsOf p)) ≡ false)
+    × (depth (pathTree p) ≤ mostDepth)
+unfolding pathAnswer pathChecks
+path-accepted p literals e =
+    let a = clear (not (pathLengthAllowed p)) 3 0 _ (omega arith) e in
+    let b = clear (some (badLiteralAt literals) (upTo (length literals))) 4 (lowest (badLiteralAt literals) (length literals)) _ (omega arith) (a .1) in
+    let d = clear (some (brokenRow p (length literals)) (upTo (rowsOf p))) 5 (lowest (brokenRow p (length literals)) (rowsOf p)) _ (omega arith) (b .1) in
+    let f = clear (ltb mostDepth (depth (pathTree p))) 6 0 _ (omega arith) (d .1) in
+    (not-not _ (a .0), b .0, d .0, ltb-false mostDepth (depth (pathTree p)) (f .0))
+
+-- the table's answer, check by check
+module _ (t : List ℕ) where
+  pub table-length : lengthAllowed t ≡ false → answer 1 0 ≡ tableAnswer t
+  unfolding tableAnswer tableChecks
+  table-length e = rw e
+
+  pub table-row : (n l : ℕ) → lengthAllowed t ≡ true → n ≡ rows t → l ≡ lowest (broken t) (rows t) → l < n → answer 2 l ≡ tableAnswer t
+  unfolding tableAnswer tableChecks
+  table-row n l e f g h = rw (e, lowest-some (broken t) (rows t), ← g, ← f, lt-ltb l n h)
+
+  pub table-whole : (n l : ℕ) → lengthAllowed t ≡ true → n ≡ rows t → l ≡ lowest (broken t) (rows t) → n ≤ l → answer 0 n ≡ tableAnswer t
+  unfolding tableAnswer tableChecks
+  table-whole n l e f g h = rw (e, lowest-some (broken t) (rows t), ← g, ← f, le-ltb l n h)

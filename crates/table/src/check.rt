@@ -1,0 +1,112 @@
+// The table checker (document 01, "The node table" and "Numbers given back"): time linear in the rows, sums in 64 bits.
+use crate::end_at;
+use crate::kind_at;
+use crate::name_at;
+use crate::parent_at;
+use crate::row_count;
+use crate::size_at;
+use basics::at_most;
+use basics::both;
+use basics::either;
+use basics::given;
+use basics::same;
+use meaning::Answer;
+ghost use mathlib.Core.Path.{_≡_};
+ghost use mathlib.Core.Bool.{true};
+ghost use Prim.Native.Nat.{_<_, _≤_};
+ghost use Rattle.meaning.specs.Lists.{lowest};
+ghost use Rattle.meaning.specs.Table.{rows, mostRows, lengthAllowed, goodRoot, goodName, goodSize, nearest, goodRow, broken};
+ghost use Rattle.meaning.specs.Answers.{tableAnswer};
+ghost use Rattle.table.specs.Sound.{Reached};
+
+// 1 to 4,096 rows, and a multiple of 4.
+fn length_allowed(table: &[u32]) -> bool
+    ensures { λ r. ⌜ r ≡ lengthAllowed (now (table .entry)) ⌝ }
+{
+    let n = row_count(table);
+    let some_rows = both(same(table.len() % 4, 0), at_most(1, n));
+    both(some_rows, at_most(n, 4096))
+}
+
+// Row 0: kind 0, name 0, parent 0, size rows minus 1.
+fn good_root(table: &[u32]) -> bool
+    requires { ⌜ 0 < rows (now table) ⌝ }
+    ensures { λ r. ⌜ r ≡ goodRoot (now (table .entry)) ⌝ }
+{
+    let plain = both(same(kind_at(table, 0), 0), same(name_at(table, 0), 0));
+    let placed = both(plain, same(parent_at(table, 0), 0));
+    both(placed, same(size_at(table, 0), row_count(table) - 1))
+}
+
+// A name is 1 to 65,535 for kinds 1 and 4, else 0.
+fn good_name(kind: usize, name: usize) -> bool
+    ensures { λ r. ⌜ r ≡ goodName kind name ⌝ }
+{
+    if either(same(kind, 1), same(kind, 4)) {
+        both(at_most(1, name), at_most(name, 65535))
+    } else {
+        same(name, 0)
+    }
+}
+
+// The largest row below i that reaches i. The climb starts at i - 1 and goes by parents: whoever lies between a row
+// and its parent ends before that row, so it does not reach i either.
+fn nearest_below(table: &[u32], i: usize) -> usize
+    requires { ⌜ Reached (now table) i ⌝ }
+    ensures { λ r. ⌜ nearest (now (table .entry)) i r ≡ true ⌝ }
+{
+    let mut j = i - 1;
+    while end_at(table, j) < i {
+        j = parent_at(table, j);
+    }
+    j
+}
+
+// Is row i, which is not the root, as the rules have it? Only asked where the rows below it are.
+fn good_row(table: &[u32], i: usize) -> bool
+    requires { ⌜ Reached (now table) i ⌝ }
+    ensures { λ r. ⌜ r ≡ goodRow (now (table .entry)) i ⌝ }
+{
+    let kind = kind_at(table, i);
+    let known = both(at_most(1, kind), at_most(kind, 4));
+    let named = both(known, good_name(kind, name_at(table, i)));
+    let sized = either(same(kind, 1), same(size_at(table, i), 0));
+    let parent = parent_at(table, i);
+    let near = same(parent, nearest_below(table, i));
+    let placed = both(near, at_most(end_at(table, i), end_at(table, parent)));
+    both(both(named, sized), placed)
+}
+
+// The lowest broken row, or the row count where there is none.
+fn lowest_broken_row(table: &[u32]) -> usize
+    requires { ⌜ (0 < rows (now table)) × (rows (now table) ≤ mostRows) ⌝ }
+    ensures { λ r. ⌜ r ≡ lowest (broken (now (table .entry))) (rows (now (table .entry))) ⌝ }
+{
+    if !good_root(table) {
+        return 0;
+    }
+    let n = row_count(table);
+    let mut i = 1;
+    while i < n {
+        if !good_row(table, i) {
+            return i;
+        }
+        i += 1;
+    }
+    n
+}
+
+// 1 for a length that is not allowed, 2 with the lowest broken row, 0 with the row count.
+pub fn check_table(table: &[u32]) -> Answer
+    ensures { λ r. ⌜ r ≡ tableAnswer (now (table .entry)) ⌝ }
+{
+    if !length_allowed(table) {
+        return given(1, 0);
+    }
+    let n = row_count(table);
+    let at = lowest_broken_row(table);
+    if at < n {
+        return given(2, at);
+    }
+    given(0, n)
+}
