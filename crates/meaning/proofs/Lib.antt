@@ -7,3 +7,9 @@ pub mod Applied
 pub mod Free
 pub mod Turning
 pub mod Checks
+pub mod Ops
+pub mod Paths
+pub mod ReadBack
+pub mod Made
+pub mod Block
+pub mod Demand

@@ -18,24 +18,13 @@ use Rattle.meaning.specs.Rows.{Op}
 use Rattle.meaning.specs.Rows as R
 use Rattle.meaning.specs.Tree.{Tree, none, node}
 use Rattle.meaning.specs.Meaning.{isAbsolute, startOf, select, walk}
-use Rattle.meaning.specs.Turning.{counting, steps, counts, firstCounting, inverseOf, inverse, predicates, test, back, turned}
+use Rattle.meaning.specs.Turning.{counting, steps, counts, inverses, inverseOf, inverse, predicates, test, back, turned}
 use Rattle.meaning.proofs.Bools.{and-l, and-r, and-i, or-none-l, or-none-r, same, eq→eqb}
 use Rattle.meaning.proofs.Lists.{some-to, some-from, has-keep-to, has-keep-from, has-upTo-to, has-upTo-from}
 use Rattle.meaning.proofs.Axes.{inverse-axis}
 use Rattle.meaning.proofs.Free.{ok, fits, free-walk}
 
 -- ---- which steps count
-
-first-one : (r : ℕ) (k : Bool) (n : ℕ) → not (eqb (cond (eqb r 0) (cond k (n + 1) 0) r) 0) ≡ (not (eqb r 0) || k)
-first-one zero true n = rw (ne-eqb (n + 1) 0 (λ e. omega arith))
-first-one zero false n = refl
-first-one (suc r) k n = rw (eqb·suc-zero, eqb·suc-zero)
-
--- a step counts exactly when there is a first one that does
-pub first-counting : (s : Tree) → not (eqb (firstCounting s) 0) ≡ counts s
-unfolding firstCounting counts
-first-counting none = refl
-first-counting (node op a b c d) = first-one (firstCounting a) (counting b) (steps a) ∙ ap (λ (v : Bool). v || counting b) (first-counting a)
 
 counting-last : (s : Tree) → counts s ≡ false → counting (predicates s) ≡ false
 unfolding counts counting predicates
@@ -54,7 +43,7 @@ counts-back (node op a b c d) done h k =
 -- the inverse axis's number is the number of the inverse axis
 pub inverse-number : (n : ℕ) → axisOf (inverseOf n) ≡ inverse (axisOf n)
 unfolding axisOf inverseOf inverse
-inverse-number n = sym (List·getD-map axisOf (0 ∷ 2 ∷ 1 ∷ 4 ∷ 3 ∷ 6 ∷ 5 ∷ 8 ∷ 7 ∷ 10 ∷ 9 ∷ []) n 0) ∙ List·getD-map inverse axes n A.self
+inverse-number n = sym (List·getD-map axisOf inverses n 0) ∙ List·getD-map inverse axes n A.self
 
 -- y is on an axis of x exactly when x is on the axis of the inverse number of y
 inverse-on : (t : List ℕ) (c x y : ℕ) → on t (axisOf c) x y ≡ on t (axisOf (inverseOf c)) y x

@@ -52,8 +52,11 @@ firstCounting (node op a b c d) =
     cond (eqb r 0) (cond (counting b) (steps a + 1) 0) r
 
 -- inverse axes: 0 with itself; 1 and 2, 3 and 4, 5 and 6, 7 and 8, 9 and 10 with each other
+abbrev pub inverses : List ℕ
+inverses = 0 ∷ 2 ∷ 1 ∷ 4 ∷ 3 ∷ 6 ∷ 5 ∷ 8 ∷ 7 ∷ 10 ∷ 9 ∷ []
+
 unfoldable pub inverseOf : ℕ → ℕ
-inverseOf n = getD (0 ∷ 2 ∷ 1 ∷ 4 ∷ 3 ∷ 6 ∷ 5 ∷ 8 ∷ 7 ∷ 10 ∷ 9 ∷ []) n 0
+inverseOf n = getD inverses n 0
 
 unfoldable pub inverse : Axis → Axis
 inverse A.self = A.self
