@@ -1,13 +1,13 @@
 -- Laws of the checks: sorts of rows told by their op's number, the search for the lowest number that fails, links of lower
 -- rows, depth row by row, and how the checks of tables and of paths stand before what follows them.
 -- Assumes nothing.
-use Prim.Native.Nat.{ℕ, zero, suc, _+_, _<_, _≤_, max}
+use Prim.Native.Nat.{ℕ, zero, suc, _+_, _%_, _<_, _≤_, max}
 use mathlib.Core.Path.{_≡_, refl, sym, ap, _∙_}
 use mathlib.Core.Logic.{⊎-elim}
 use mathlib.Core.Bool.{Bool, true, false, _||_, _&&_, not, cond}
 use mathlib.Core.List.{List}
 use lib.ListN.{length}
-use lib.Dec.{leb, ltb, eqb}
+use lib.Dec.{leb, ltb, eqb, leb→le}
 use lib.Ieee.{Float}
 use native.Mathlib.Omega.{arith}
 use native.Mathlib.Nat.{max-le}
@@ -15,12 +15,12 @@ use native.Mathlib.Numerals.{add-one}
 use borrow.Author.Tests.{le-leb, lt-leb, lt-ltb, le-ltb, ne-eqb, ltb-false}
 use Rattle.meaning.specs.Lists.{upTo, some, lowest}
 use Rattle.meaning.specs.Table.{rows, lengthAllowed, broken, accepted}
-use Rattle.meaning.specs.Rows.{Op, code, opOf, opAt, rowsOf, firstLink, secondLink, links, linkedBelow, isNumber, isTruth, isPath, isStep, isPredicate, isUnknown, pathLengthAllowed, badLiteralAt, brokenRow}
+use Rattle.meaning.specs.Rows.{code, opOf, opAt, rowsOf, firstLink, secondLink, links, linkedBelow, isNumber, isTruth, isPath, isStep, isPredicate, isUnknown, mostPathRows, pathLengthAllowed, badLiteralAt, brokenRow}
 use Rattle.meaning.specs.Rows as R
-use Rattle.meaning.specs.Tree.{none, linked, tree, depth, mostDepth}
+use Rattle.meaning.specs.Tree.{linked, tree, depth, mostDepth}
 use Rattle.meaning.specs.Answers.{answer, check, tableChecks, tableAnswer, pathChecks, pathAnswer, pathTree}
 use Rattle.meaning.specs.declared.Answer.{Answer}
-use Rattle.meaning.proofs.Bools.{lt-or-ge}
+use Rattle.meaning.proofs.Bools.{lt-or-ge, and-r, truly}
 use Rattle.meaning.proofs.Lists.{some-last, lowest-is, lowest-some}
 use Rattle.meaning.proofs.Trees.{agree, op-past, op-is, tree-suc}
 
@@ -180,6 +180,11 @@ table-accepted t e =
     let b = clear (some (broken t) (upTo (rows t))) 2 (lowest (broken t) (rows t)) _ (omega arith) (a .1) in
     rw (not-not (lengthAllowed t) (a .0), b .0)
 
+-- a path whose length is allowed has at most 256 rows
+pub most-rows : (p : List ℕ) → pathLengthAllowed p ≡ true → rowsOf p ≤ mostPathRows
+unfolding pathLengthAllowed
+most-rows p h = leb→le (rowsOf p) mostPathRows (and-r (eqb (length p % 5) 0 && leb 1 (rowsOf p)) (leb (rowsOf p) mostPathRows) (truly h))
+
 -- of a path whose answer is 0 no check applies
 pub path-accepted : (p : List ℕ) (literals : List Float) → pathAnswer p literals .number ≡ 0
     → (pathLengthAllowed p ≡ true)
@@ -207,3 +212,23 @@ module _ (t : List ℕ) where
   pub table-whole : (n l : ℕ) → lengthAllowed t ≡ true → n ≡ rows t → l ≡ lowest (broken t) (rows t) → n ≤ l → answer 0 n ≡ tableAnswer t
   unfolding tableAnswer tableChecks
   table-whole n l e f g h = rw (e, lowest-some (broken t) (rows t), ← g, ← f, le-ltb l n h)
+
+-- the path checker's answers, from what its checks found: each check looked at once those before it did not apply
+module _ (p : List ℕ) (literals : List Float) where
+  pub length-answer : pathLengthAllowed p ≡ false → answer 3 0 ≡ pathAnswer p literals
+  unfolding pathAnswer pathChecks
+  length-answer a = rw a
+
+  module _ (a : pathLengthAllowed p ≡ true) (i : ℕ) (is-lowest : i ≡ lowest (badLiteralAt literals) (length literals)) where
+    pub literal-answer : i < length literals → answer 4 i ≡ pathAnswer p literals
+    unfolding pathAnswer pathChecks
+    literal-answer h = rw (a, lowest-some (badLiteralAt literals) (length literals), ← is-lowest, lt-ltb i (length literals) h)
+
+    module _ (good : length literals ≤ i) (r : ℕ) (is-row : r ≡ lowest (brokenRow p (length literals)) (rowsOf p)) where
+      pub row-answer : r < rowsOf p → answer 5 r ≡ pathAnswer p literals
+      unfolding pathAnswer pathChecks
+      row-answer h = rw (a, lowest-some (badLiteralAt literals) (length literals), ← is-lowest, le-ltb i (length literals) good, lowest-some (brokenRow p (length literals)) (rowsOf p), ← is-row, lt-ltb r (rowsOf p) h)
+
+      pub depth-answer : (b : Bool) → ltb mostDepth (depth (pathTree p)) ≡ b → rowsOf p ≤ r → cond b (answer 6 0) (answer 0 (rowsOf p)) ≡ pathAnswer p literals
+      unfolding pathAnswer pathChecks
+      depth-answer b e h = rw (a, lowest-some (badLiteralAt literals) (length literals), ← is-lowest, le-ltb i (length literals) good, lowest-some (brokenRow p (length literals)) (rowsOf p), ← is-row, le-ltb r (rowsOf p) h, e)

@@ -1,1 +1,4 @@
 mod RowReads
+mod FieldKinds
+mod Passes
+mod Literals

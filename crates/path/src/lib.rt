@@ -89,3 +89,6 @@ pub fn test_at(path: &[u32], row: usize) -> usize
         _ => 0,
     }
 }
+
+pub mod check;
+pub mod fields;
