@@ -13,3 +13,5 @@ pub mod ReadBack
 pub mod Made
 pub mod Block
 pub mod Demand
+pub mod Marks
+pub mod Windows

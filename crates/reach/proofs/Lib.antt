@@ -1,0 +1,2 @@
+mod Sweep
+pub mod Sets

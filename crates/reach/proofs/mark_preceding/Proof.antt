@@ -1,0 +1,83 @@
+-- `reach::mark_preceding` meets its contract: the rows passed are marked exactly if they end before the last marked row. The measure is what is left of the rows.
+-- Assumes nothing.
+use Prim.Native.Nat.{_-_, _≤_}
+use mathlib.Core.Path.{_≡_, refl, _∙_}
+use lib.ListN.{length, length-set}
+use native.Mathlib.Omega.{arith}
+use borrow.Author.Needs.{needs}
+use Rattle.meaning.specs.Table.{rows, end}
+use Rattle.meaning.specs.Axis as A
+use Rattle.meaning.proofs.Marks.{Wrote, wrote-start, wrote-more}
+use Rattle.reach.specs.Reach.{hit}
+use Rattle.reach.proofs.Sweep.{preceding-hit, up-hits}
+use Rattle.reach.proofs.mark_preceding.Statement.{statement}
+use Rattle.reach.proofs.mark_preceding.Tie as tie
+
+abbrev Inv-loop : tie.InvT-loop
+Inv-loop table from to₀ n high i₀ to i =
+    (i ≤ n)
+    × (n ≡ rows table)
+    × (length to ≡ length to₀)
+    × Wrote (hit table A.preceding from) to i
+
+abbrev μ-loop : tie.MeasureT-loop
+μ-loop table from to₀ n high i₀ to i = n - i
+
+row-count-requires : tie.Need-row-count-requires Inv-loop μ-loop
+row-count-requires c κs = search needs
+
+last-marked-requires : tie.Need-last-marked-requires Inv-loop μ-loop
+last-marked-requires c κs = search needs
+
+loop-holds : tie.Need-loop-holds Inv-loop μ-loop
+loop-holds c = (omega arith, c .before .row-count .ensures, refl, wrote-start _ _)
+
+end-at-requires : tie.Need-end-at-requires Inv-loop μ-loop
+end-at-requires c κs = search needs
+
+below-requires : tie.Need-below-requires Inv-loop μ-loop
+below-requires c κs = search needs
+
+slice-write-to : tie.Need-slice-write-to Inv-loop μ-loop
+slice-write-to c = search needs
+
+add-i : tie.Need-add-i Inv-loop μ-loop
+add-i c = search needs
+
+loop-less : tie.Need-loop-less Inv-loop μ-loop
+loop-less c = search needs
+
+loop-again : tie.Need-loop-again Inv-loop μ-loop
+loop-again c =
+    let lo = c .before .before .before in
+    let inv = lo .loop .inv in
+    let e = c .before .end-at .ensures in (
+      omega arith,
+      inv .1,
+      simp length-set (inv .2),
+      wrote-more _ _ _ _ (inv .3) (omega arith) (c .below .ensures ∙ lo .before .last-marked .ensures _ (omega arith) ∙ rw (e .0, inv .1) (preceding-hit _ _ _ (omega arith))),
+    )
+
+same-length : tie.Need-same-length Inv-loop μ-loop
+same-length c = search needs
+
+returns : tie.Need-returns Inv-loop μ-loop
+returns c = up-hits _ _ _ _ _ (c .before .loop .inv .3) (omega arith)
+
+pub mark-preceding-spec : {M : Type 1} → statement M
+mark-preceding-spec =
+    tie.close
+    (tie.spec
+    Inv-loop
+    μ-loop
+    row-count-requires
+    last-marked-requires
+    loop-holds
+    end-at-requires
+    below-requires
+    slice-write-to
+    add-i
+    loop-less
+    loop-again
+    same-length
+    returns)

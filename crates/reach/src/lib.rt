@@ -1,0 +1,231 @@
+// The union of an axis over a set of nodes, marks in and marks out, in one or two passes over the rows
+// (document 01, "Meaning": each step takes every node of the set so far, and the union goes on).
+// A pass carries what it has gathered from the marked rows behind it: the furthest end, the nearest row, the least end,
+// the last row, or a flag for each parent.
+use basics::below;
+use basics::both;
+use basics::either;
+use table::end_at;
+use table::parent_at;
+use table::row_count;
+ghost use mathlib.Core.Path.{_≡_};
+ghost use mathlib.Core.Bool.{false, _&&_, _||_, cond};
+ghost use Prim.Native.Nat.{ℕ, _<_, _≤_};
+ghost use lib.Dec.{ltb};
+ghost use lib.ListN.{length, getD};
+ghost use Rattle.meaning.specs.Lists.{upTo, some};
+ghost use Rattle.meaning.specs.Table.{mostRows, rows, end};
+ghost use Rattle.meaning.specs.Axis.{axisOf};
+ghost use Rattle.meaning.specs.Axis.Axis.{self, child, parent, descendant, ancestor, descendant-or-self, ancestor-or-self, following, preceding, following-sibling, preceding-sibling};
+ghost use Rattle.reach.specs.Reach.{Hits, Room, beyond};
+
+// A number that no subtree's end reaches.
+const BEYOND: usize = 8589934592;
+
+// The larger of a and, where marked, v.
+fn larger_if(a: usize, marked: bool, v: usize) -> usize
+    ensures { λ r. ⌜ ((y : ℕ) → ltb y r ≡ (ltb y a || (marked && ltb y v))) ⌝ }
+{
+    if both(marked, a < v) { v } else { a }
+}
+
+// The smaller of a and, where marked, v.
+fn smaller_if(a: usize, marked: bool, v: usize) -> usize
+    ensures { λ r. ⌜ ((y : ℕ) → ltb r y ≡ (ltb a y || (marked && ltb v y))) ⌝ }
+{
+    if both(marked, v < a) { v } else { a }
+}
+
+// Clears the first n marks.
+fn clear(marks: &mut [bool], n: usize)
+    requires { ⌜ n ≤ length (now marks) ⌝ }
+    ensures { λ _. ⌜ ((y : ℕ) → y < n → getD (now (marks .exit)) y false ≡ false) ⌝ }
+{
+    let mut i = 0;
+    while i < n {
+        marks[i] = false;
+        i += 1;
+    }
+}
+
+fn mark_selves(table: &[u32], from: &[bool], to: &mut [bool])
+    requires { ⌜ Room (now table) (now from) (now to) ⌝ }
+    ensures { λ _. ⌜ Hits (now (table .entry)) self (now (from .entry)) (now (to .exit)) ⌝ }
+{
+    let n = row_count(table);
+    let mut i = 0;
+    while i < n {
+        to[i] = from[i];
+        i += 1;
+    }
+}
+
+// A row is marked if its parent was. Row 0 is nobody's child.
+fn mark_children(table: &[u32], from: &[bool], to: &mut [bool])
+    requires { ⌜ Room (now table) (now from) (now to) ⌝ }
+    ensures { λ _. ⌜ Hits (now (table .entry)) child (now (from .entry)) (now (to .exit)) ⌝ }
+{
+    let n = row_count(table);
+    let mut i = 0;
+    while i < n {
+        let p = parent_at(table, i);
+        to[i] = both(below(0, i), from[p]);
+        i += 1;
+    }
+}
+
+fn mark_parents(table: &[u32], from: &[bool], to: &mut [bool])
+    requires { ⌜ Room (now table) (now from) (now to) ⌝ }
+    ensures { λ _. ⌜ Hits (now (table .entry)) parent (now (from .entry)) (now (to .exit)) ⌝ }
+{
+    let n = row_count(table);
+    clear(to, n);
+    let mut i = 0;
+    while i < n {
+        let p = parent_at(table, i);
+        to[p] = either(to[p], both(from[i], below(0, i)));
+        i += 1;
+    }
+}
+
+// The descendants, and the rows themselves where own: before the furthest end of a marked row behind.
+fn mark_descendants(table: &[u32], own: bool, from: &[bool], to: &mut [bool])
+    requires { ⌜ Room (now table) (now from) (now to) ⌝ }
+    ensures { λ _. ⌜ Hits (now (table .entry)) (cond own descendant-or-self descendant) (now (from .entry)) (now (to .exit)) ⌝ }
+{
+    let n = row_count(table);
+    let mut far = 0;
+    let mut i = 0;
+    while i < n {
+        let marked = from[i];
+        to[i] = either(both(own, marked), below(i, far));
+        far = larger_if(far, marked, end_at(table, i) + 1);
+        i += 1;
+    }
+}
+
+// The ancestors, and the rows themselves where own: the nearest marked row after them is not past their end.
+fn mark_ancestors(table: &[u32], own: bool, from: &[bool], to: &mut [bool])
+    requires { ⌜ Room (now table) (now from) (now to) ⌝ }
+    ensures { λ _. ⌜ Hits (now (table .entry)) (cond own ancestor-or-self ancestor) (now (from .entry)) (now (to .exit)) ⌝ }
+{
+    let mut near = BEYOND;
+    let mut i = row_count(table);
+    while 0 < i {
+        i -= 1;
+        let marked = from[i];
+        to[i] = either(both(own, marked), below(near, end_at(table, i) + 1));
+        near = smaller_if(near, marked, i);
+    }
+}
+
+// The least end of a marked row's subtree.
+fn least_end(table: &[u32], from: &[bool]) -> usize
+    requires { ⌜ (rows (now table) ≤ mostRows) × (rows (now table) ≤ length (now from)) ⌝ }
+    ensures { λ r. ⌜ ((y : ℕ) → y ≤ beyond → ltb r y ≡ some (λ x. getD (now (from .entry)) x false && ltb (end (now (table .entry)) x) y) (upTo (rows (now (table .entry))))) ⌝ }
+{
+    let n = row_count(table);
+    let mut low = BEYOND;
+    let mut i = 0;
+    while i < n {
+        low = smaller_if(low, from[i], end_at(table, i));
+        i += 1;
+    }
+    low
+}
+
+// The last marked row of the first n.
+fn last_marked(from: &[bool], n: usize) -> usize
+    requires { ⌜ n ≤ length (now from) ⌝ }
+    ensures { λ r. ⌜ ((y : ℕ) → y ≤ beyond → ltb y r ≡ some (λ x. getD (now (from .entry)) x false && ltb y x) (upTo n)) ⌝ }
+{
+    let mut high = 0;
+    let mut i = 0;
+    while i < n {
+        high = larger_if(high, from[i], i);
+        i += 1;
+    }
+    high
+}
+
+fn mark_following(table: &[u32], from: &[bool], to: &mut [bool])
+    requires { ⌜ Room (now table) (now from) (now to) ⌝ }
+    ensures { λ _. ⌜ Hits (now (table .entry)) following (now (from .entry)) (now (to .exit)) ⌝ }
+{
+    let n = row_count(table);
+    let low = least_end(table, from);
+    let mut i = 0;
+    while i < n {
+        to[i] = below(low, i);
+        i += 1;
+    }
+}
+
+fn mark_preceding(table: &[u32], from: &[bool], to: &mut [bool])
+    requires { ⌜ Room (now table) (now from) (now to) ⌝ }
+    ensures { λ _. ⌜ Hits (now (table .entry)) preceding (now (from .entry)) (now (to .exit)) ⌝ }
+{
+    let n = row_count(table);
+    let high = last_marked(from, n);
+    let mut i = 0;
+    while i < n {
+        to[i] = below(end_at(table, i), high);
+        i += 1;
+    }
+}
+
+// A row is marked if a marked sibling was passed: seen has a flag for each parent. Row 0 has no siblings.
+fn mark_later_siblings(table: &[u32], from: &[bool], to: &mut [bool], seen: &mut [bool])
+    requires { ⌜ Room (now table) (now from) (now to) ⌝ ∗ ⌜ rows (now table) ≤ length (now seen) ⌝ }
+    ensures { λ _. ⌜ Hits (now (table .entry)) following-sibling (now (from .entry)) (now (to .exit)) ⌝ }
+{
+    let n = row_count(table);
+    clear(seen, n);
+    let mut i = 0;
+    while i < n {
+        let p = parent_at(table, i);
+        let passed = seen[p];
+        to[i] = passed;
+        seen[p] = either(passed, both(from[i], below(0, i)));
+        i += 1;
+    }
+}
+
+// The same from the last row down.
+fn mark_earlier_siblings(table: &[u32], from: &[bool], to: &mut [bool], seen: &mut [bool])
+    requires { ⌜ Room (now table) (now from) (now to) ⌝ ∗ ⌜ rows (now table) ≤ length (now seen) ⌝ }
+    ensures { λ _. ⌜ Hits (now (table .entry)) preceding-sibling (now (from .entry)) (now (to .exit)) ⌝ }
+{
+    let n = row_count(table);
+    clear(seen, n);
+    let mut i = n;
+    while 0 < i {
+        i -= 1;
+        let p = parent_at(table, i);
+        let passed = seen[p];
+        let child = below(0, i);
+        to[i] = both(child, passed);
+        seen[p] = either(passed, both(from[i], child));
+    }
+}
+
+// Marks the rows that are on the axis with this number of some marked row; a number above 10 reads as axis 0.
+// seen is room to work in for the siblings, and what it held does not matter.
+pub fn reach(table: &[u32], axis: usize, from: &[bool], to: &mut [bool], seen: &mut [bool])
+    requires { ⌜ Room (now table) (now from) (now to) ⌝ ∗ ⌜ rows (now table) ≤ length (now seen) ⌝ }
+    ensures { λ _. ⌜ Hits (now (table .entry)) (axisOf axis) (now (from .entry)) (now (to .exit)) ⌝ }
+{
+    match axis {
+        1 => mark_children(table, from, to),
+        2 => mark_parents(table, from, to),
+        3 => mark_descendants(table, false, from, to),
+        4 => mark_ancestors(table, false, from, to),
+        5 => mark_descendants(table, true, from, to),
+        6 => mark_ancestors(table, true, from, to),
+        7 => mark_following(table, from, to),
+        8 => mark_preceding(table, from, to),
+        9 => mark_later_siblings(table, from, to, seen),
+        10 => mark_earlier_siblings(table, from, to, seen),
+        _ => mark_selves(table, from, to),
+    }
+}
