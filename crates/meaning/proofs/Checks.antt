@@ -12,7 +12,7 @@ use lib.Ieee.{Float}
 use native.Mathlib.Omega.{arith}
 use native.Mathlib.Nat.{max-le}
 use native.Mathlib.Numerals.{add-one}
-use borrow.Author.Tests.{le-leb, lt-leb, lt-ltb, le-ltb, ne-eqb, ltb-false}
+use borrow.Author.Tests.{le-leb, lt-leb, lt-ltb, le-ltb, ne-eqb, ltb-false, not-false}
 use Rattle.meaning.specs.Lists.{upTo, some, lowest}
 use Rattle.meaning.specs.Table.{rows, lengthAllowed, broken, accepted}
 use Rattle.meaning.specs.Rows.{code, opOf, opAt, rowsOf, firstLink, secondLink, links, linkedBelow, isNumber, isTruth, isPath, isStep, isPredicate, isUnknown, mostPathRows, pathLengthAllowed, badLiteralAt, brokenRow}
@@ -26,28 +26,34 @@ use Rattle.meaning.proofs.Trees.{agree, op-past, op-is, tree-suc}
 
 -- ---- the sorts of rows, by op
 
+-- ops 1 to 9 and 21 are numbers
 pub number-ops : (n : ℕ) → isNumber (opOf n) ≡ ((leb 1 n && leb n 9) || eqb n 21)
 unfolding opOf code isNumber some upTo
 number-ops = agree (λ n. isNumber (opOf n)) (λ n. (leb 1 n && leb n 9) || eqb n 21) 26 refl
     (λ n h. rw (op-past n h, le-leb 1 n (omega arith), lt-leb n 9 (omega arith), ne-eqb n 21 (λ e. omega arith)))
 
+-- ops 10 to 20 are truths
 pub truth-ops : (n : ℕ) → isTruth (opOf n) ≡ (leb 10 n && leb n 20)
 unfolding opOf code isTruth some upTo
 truth-ops = agree (λ n. isTruth (opOf n)) (λ n. leb 10 n && leb n 20) 26 refl
     (λ n h. rw (op-past n h, le-leb 10 n (omega arith), lt-leb n 20 (omega arith)))
 
+-- ops 22 and 23 are paths
 pub path-ops : (n : ℕ) → isPath (opOf n) ≡ (eqb n 22 || eqb n 23)
 unfolding isPath
 path-ops n = rw (op-is 22 n (omega arith) (omega arith), op-is 23 n (omega arith) (omega arith))
 
+-- op 24 is a step
 pub step-op : (n : ℕ) → isStep (opOf n) ≡ eqb n 24
 unfolding isStep
 step-op n = op-is 24 n (omega arith) (omega arith)
 
+-- op 25 is a predicate
 pub predicate-op : (n : ℕ) → isPredicate (opOf n) ≡ eqb n 25
 unfolding isPredicate
 predicate-op n = op-is 25 n (omega arith) (omega arith)
 
+-- 0 and the numbers above 25 are no op
 pub unknown-ops : (n : ℕ) → isUnknown (opOf n) ≡ (eqb n 0 || ltb 25 n)
 unfolding opOf code isUnknown some upTo
 unknown-ops = agree (λ n. isUnknown (opOf n)) (λ n. eqb n 0 || ltb 25 n) 26 refl
@@ -60,34 +66,41 @@ unfoldable pub Passed : (ℕ → Bool) → ℕ → Type 0
 Passed f i = (j : ℕ) → j < i → f j ≡ false
 
 module _ (f : ℕ → Bool) where
+  -- at the start no number is passed
   pub passed-start : Passed f 0
   unfolding Passed
   passed-start j h = absurd (omega arith)
 
+  -- one more number at which the test fails is passed
   pub passed-more : (i : ℕ) → Passed f i → f i ≡ false → Passed f (i + 1)
   unfolding Passed
   passed-more i h e j l = ⊎-elim (λ b. h j b) (λ b. let s : j ≡ i = omega arith in ap f s ∙ e) (lt-or-ge j i)
 
+  -- the first number at which it holds is the lowest
   pub passed-found : (n i : ℕ) → Passed f i → i < n → f i ≡ true → i ≡ lowest f n
   unfolding Passed
   passed-found n i h l e = sym (lowest-is f n i (omega arith) h (λ _. e))
 
+  -- where all are passed, the lowest is their count
   pub passed-all : (n i : ℕ) → Passed f i → i ≡ n → i ≡ lowest f n
   unfolding Passed
   passed-all n i h e = sym (lowest-is f n i (omega arith) h (λ l. absurd (omega arith)))
 
 -- ---- links of lower rows
 
+-- below row 0 no row links
 pub linked-none : (p : List ℕ) (l : ℕ) → linkedBelow p 0 l ≡ false
 unfolding linkedBelow some upTo
 linked-none p l = refl
 
+-- one row more brings its own links
 pub linked-more : (p : List ℕ) (n l : ℕ) → linkedBelow p (n + 1) l ≡ (linkedBelow p n l || links p n l)
 unfolding linkedBelow
 linked-more p n l = rw (add-one n) (some-last (λ r. links p r l) n)
 
 -- ---- depth
 
+-- no link has no depth
 pub depth-zero : (p : List ℕ) → depth (tree p 0) ≡ 0
 unfolding tree linked depth
 depth-zero p = refl
@@ -168,17 +181,13 @@ clear : (c : Bool) (number place : ℕ) (rest : Answer) → 0 < number → check
 clear true number place rest h e = absurd (omega arith)
 clear false number place rest h e = (refl, e)
 
-not-not : (b : Bool) → not b ≡ false → b ≡ true
-not-not true e = refl
-not-not false e = sym e
-
 -- a table whose answer is 0 is accepted
 pub table-accepted : (t : List ℕ) → tableAnswer t .number ≡ 0 → accepted t ≡ true
 unfolding tableAnswer tableChecks accepted
 table-accepted t e =
     let a = clear (not (lengthAllowed t)) 1 0 _ (omega arith) e in
     let b = clear (some (broken t) (upTo (rows t))) 2 (lowest (broken t) (rows t)) _ (omega arith) (a .1) in
-    rw (not-not (lengthAllowed t) (a .0), b .0)
+    rw (not-false (lengthAllowed t) (a .0), b .0)
 
 -- a path whose length is allowed has at most 256 rows
 pub most-rows : (p : List ℕ) → pathLengthAllowed p ≡ true → rowsOf p ≤ mostPathRows
@@ -197,7 +206,7 @@ path-accepted p literals e =
     let b = clear (some (badLiteralAt literals) (upTo (length literals))) 4 (lowest (badLiteralAt literals) (length literals)) _ (omega arith) (a .1) in
     let d = clear (some (brokenRow p (length literals)) (upTo (rowsOf p))) 5 (lowest (brokenRow p (length literals)) (rowsOf p)) _ (omega arith) (b .1) in
     let f = clear (ltb mostDepth (depth (pathTree p))) 6 0 _ (omega arith) (d .1) in
-    (not-not _ (a .0), b .0, d .0, ltb-false mostDepth (depth (pathTree p)) (f .0))
+    (not-false _ (a .0), b .0, d .0, ltb-false mostDepth (depth (pathTree p)) (f .0))
 
 -- the table's answer, check by check
 module _ (t : List ℕ) where
@@ -215,20 +224,24 @@ module _ (t : List ℕ) where
 
 -- the path checker's answers, from what its checks found: each check looked at once those before it did not apply
 module _ (p : List ℕ) (literals : List Float) where
+  -- 3: the length is not allowed
   pub length-answer : pathLengthAllowed p ≡ false → answer 3 0 ≡ pathAnswer p literals
   unfolding pathAnswer pathChecks
   length-answer a = rw a
 
   module _ (a : pathLengthAllowed p ≡ true) (i : ℕ) (is-lowest : i ≡ lowest (badLiteralAt literals) (length literals)) where
+    -- 4: the lowest bad literal
     pub literal-answer : i < length literals → answer 4 i ≡ pathAnswer p literals
     unfolding pathAnswer pathChecks
     literal-answer h = rw (a, lowest-some (badLiteralAt literals) (length literals), ← is-lowest, lt-ltb i (length literals) h)
 
     module _ (good : length literals ≤ i) (r : ℕ) (is-row : r ≡ lowest (brokenRow p (length literals)) (rowsOf p)) where
+      -- 5: the lowest broken row
       pub row-answer : r < rowsOf p → answer 5 r ≡ pathAnswer p literals
       unfolding pathAnswer pathChecks
       row-answer h = rw (a, lowest-some (badLiteralAt literals) (length literals), ← is-lowest, le-ltb i (length literals) good, lowest-some (brokenRow p (length literals)) (rowsOf p), ← is-row, lt-ltb r (rowsOf p) h)
 
+      -- 6 where the depth is above 8, else 0
       pub depth-answer : (b : Bool) → ltb mostDepth (depth (pathTree p)) ≡ b → rowsOf p ≤ r → cond b (answer 6 0) (answer 0 (rowsOf p)) ≡ pathAnswer p literals
       unfolding pathAnswer pathChecks
       depth-answer b e h = rw (a, lowest-some (badLiteralAt literals) (length literals), ← is-lowest, le-ltb i (length literals) good, lowest-some (brokenRow p (length literals)) (rowsOf p), ← is-row, le-ltb r (rowsOf p) h, e)

@@ -16,6 +16,7 @@ use Rattle.meaning.proofs.Lists.{below-none}
 use Rattle.meaning.proofs.Trees.{op-past, agree}
 use Rattle.path.specs.Kinds.{kinds, fieldOf}
 
+-- the number of a kind, which decodes to it
 kindNumber : Field → ℕ
 kindNumber unused = 0
 kindNumber index = 1
@@ -52,13 +53,14 @@ kinds-right g f h past none n =
     (λ l. ap fieldOf (past n l) ∙ sym none ∙ ap f (sym (op-past n l)))
     (lt-or-ge n 26)
 
+-- the code's tables of fields a and b
 abbrev pub first : List ℕ
 first = 0 ∷ 1 ∷ 0 ∷ 0 ∷ 4 ∷ 4 ∷ 4 ∷ 4 ∷ 4 ∷ 4 ∷ 4 ∷ 4 ∷ 4 ∷ 4 ∷ 4 ∷ 4 ∷ 5 ∷ 5 ∷ 5 ∷ 4 ∷ 7 ∷ 7 ∷ 8 ∷ 9 ∷ 9 ∷ 10 ∷ []
 
 abbrev pub second : List ℕ
 second = 0 ∷ 0 ∷ 0 ∷ 0 ∷ 4 ∷ 4 ∷ 4 ∷ 4 ∷ 4 ∷ 0 ∷ 4 ∷ 4 ∷ 4 ∷ 4 ∷ 4 ∷ 4 ∷ 5 ∷ 5 ∷ 0 ∷ 0 ∷ 0 ∷ 0 ∷ 0 ∷ 0 ∷ 10 ∷ 6 ∷ []
 
--- the tables of fields a and b
+-- they agree with the table of ops
 pub first-right : (n : ℕ) → fieldOf (getD first n 0) ≡ fieldsOf (opOf n) .a
 unfolding opOf fieldsOf kindNumber some upTo
 first-right = kinds-right (λ n. getD first n 0) (λ o. fieldsOf o .a) refl (λ n h. List·getD-eq-default first 0 h) refl
@@ -105,5 +107,6 @@ link-field p literals r v step-link h = refl
 link-field p literals r v step-or-none h = refl
 link-field p literals r v predicate-or-none h = refl
 
+-- a field of a link kind is good where its link is
 pub link-kind : (p : List ℕ) (literals r v n : ℕ) → 4 ≤ n → goodLink p r (fieldOf n) v ≡ goodField p literals r (fieldOf n) v
 link-kind p literals r v n h = link-field p literals r v (fieldOf n) (links-from n ∙ le-leb 4 n h)

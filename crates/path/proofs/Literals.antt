@@ -11,6 +11,7 @@ use lib.Ieee.Compare.{differs-from-itself, nan-differs}
 use Rattle.meaning.specs.Rows.{badLiteral, badLiteralAt}
 use Rattle.meaning.proofs.Bools.{truly, or-none-l}
 
+-- a NaN is not allowed
 pub nan-bad : (x : Float) → ne x x ≡ true → true ≡ badLiteral x
 unfolding badLiteral isNan
 nan-bad x h = rw (differs-from-itself x (truly h))
@@ -21,9 +22,11 @@ is-number nan h = absurd (false≢true (sym h ∙ nan-differs))
 is-number (inf s) h = refl
 is-number (fin s m e) h = refl
 
+-- what equals itself is no NaN
 pub no-nan : (x : Float) → ne x x ≡ false → T (not (isNan x))
 no-nan x h = rw (is-number x h) tt
 
+-- any other literal is told by its bits
 pub bits-bad : (x : Float) → ne x x ≡ false → leb 0x7FF0000000000000 (toBits binary64 x) ≡ badLiteral x
 unfolding badLiteral
 bits-bad x h = rw (is-number x h)

@@ -28,6 +28,7 @@ marked m i l h =
     (λ n. rw (getD-set-other m i l true false (λ e. n (sym e)), ne-eqb i l n) (sym (or-false (getD m l false))))
     (eq-or-ne i l)
 
+-- a row's links marked
 pub marks-more : (p : List ℕ) (r : ℕ) (m : List Bool) (a b : ℕ) → Marks p r m → a ≡ firstLink p r → b ≡ secondLink p r → a < length m → b < length m → Marks p (r + 1) (set (set m a true) b true)
 unfolding Marks links
 marks-more p r m a b h e f k n l =
@@ -39,23 +40,28 @@ replicate-false zero l = refl
 replicate-false (suc n) zero = refl
 replicate-false (suc n) (suc l) = replicate-false n l
 
+-- no marks before the first row
 pub marks-start : (p : List ℕ) (n : ℕ) → Marks p 0 (replicate n false)
 unfolding Marks
 marks-start p n l = replicate-false n l ∙ sym (linked-none p l)
 
+-- what a mark says
 pub marks-at : (p : List ℕ) (n : ℕ) (m : List Bool) → Marks p n m → (l : ℕ) → getD m l false ≡ linkedBelow p n l
 unfolding Marks
 marks-at p n m h l = h l
 
+-- the marks after the last row
 pub marks-all : (p : List ℕ) (r n : ℕ) (m : List Bool) → Marks p r m → r ≡ n → Marks p n m
 marks-all p r n m h e = rw e at h
 
 -- ---- depths by link
 
+-- no link has depth 0
 pub depths-start : (p : List ℕ) (d : List ℕ) → getD d 0 0 ≡ 0 → Depths p 0 d
 unfolding Depths
 depths-start p d h l k = let e : l ≡ 0 = omega arith in rw e (h ∙ sym (depth-zero p))
 
+-- a row's depth written at its link
 pub depths-more : (p : List ℕ) (r : ℕ) (d : List ℕ) (v : ℕ) → Depths p r d → r + 1 < length d → v ≡ depth (tree p (r + 1)) → Depths p (r + 1) (set d (r + 1) v)
 unfolding Depths
 depths-more p r d v h k e l n =
@@ -64,6 +70,7 @@ depths-more p r d v h k e l n =
     (λ s. getD-set-other d (r + 1) l v 0 s ∙ h l (omega arith))
     (eq-or-ne l (r + 1))
 
+-- what a depth says
 pub depths-at : (p : List ℕ) (n : ℕ) (d : List ℕ) (l : ℕ) → Depths p n d → l ≤ n → getD d l 0 ≡ depth (tree p l)
 unfolding Depths
 depths-at p n d l h k = h l k
@@ -73,9 +80,11 @@ module _ (p : List ℕ) (r : ℕ) (d : List ℕ) (a b v : ℕ) (h : Depths p r d
   inner : v ≡ max (depth (tree p (firstLink p r))) (depth (tree p (secondLink p r)))
   inner = is-larger ∙ rw (depths-at p r d a h (is-first .1), depths-at p r d b h (is-second .1), is-first .0, is-second .0)
 
+  -- the deeper link is no deeper than the row's number
   pub inner-le : v ≤ r
   inner-le = rw inner (max-le (le-trans (depth-le p (firstLink p r)) (first-le p r)) (le-trans (depth-le p (secondLink p r)) (second-le p r)))
 
+  -- a path is one deeper than its links
   pub row-deep : (path : Bool) (w : ℕ) → path ≡ isPath (opAt p r) → w ≡ v + cond path 1 0 → (w ≡ depth (tree p (r + 1))) × (w ≤ r + 1)
   row-deep path w e f =
       let g : w ≡ depth (tree p (r + 1)) = f ∙ rw (inner, e) (sym (depth-row p r)) in

@@ -7,7 +7,7 @@ use basics::either;
 use basics::same;
 ghost use mathlib.Core.Path.{_≡_};
 ghost use Prim.Native.Nat.{_<_, _≤_};
-ghost use Rattle.meaning.specs.Rows.{opOf, opAt, fieldsOf, isNumber, isTruth, isPath, isStep, isPredicate, isUnknown, takes, goodTest, goodLink, goodField, goodFields};
+ghost use Rattle.meaning.specs.Rows.{opOf, fieldsOf, isNumber, isTruth, isPath, isStep, isPredicate, isUnknown, takes, goodTest, goodLink, goodField, goodFields};
 ghost use Rattle.path.specs.Kinds.{fieldOf};
 
 // The kinds of a field, by number.
