@@ -15,3 +15,7 @@ pub mod Block
 pub mod Demand
 pub mod Marks
 pub mod Windows
+pub mod Filters
+pub mod Numbers
+pub mod Evaluation
+pub mod Outcome

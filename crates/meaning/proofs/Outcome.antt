@@ -1,0 +1,74 @@
+-- What evaluation answers and leaves in its output, check by check, stated over what code has found.
+-- Assumes nothing.
+use Prim.Native.Nat.{ℕ, _%_, _<_, _≤_}
+use mathlib.Core.Path.{_≡_, refl, sym, ap, _∙_}
+use mathlib.Core.Bool.{Bool, true, false, _&&_, not}
+use mathlib.Core.List.{List, _++_}
+use lib.ListN.{length, drop}
+use lib.Dec.{leb, ltb, eqb, leb→le}
+use lib.Ieee.{Float}
+use native.Mathlib.Omega.{arith}
+use borrow.Author.Tests.{le-leb, lt-leb, lt-ltb, le-ltb, ne-eqb}
+use Rattle.meaning.specs.Lists.{upTo, some}
+use Rattle.meaning.specs.Table.{rows, mostRows, lengthAllowed, broken, accepted}
+use Rattle.meaning.specs.Rows.{rowsOf, mostPathRows}
+use Rattle.meaning.specs.Tree.{tree}
+use Rattle.meaning.specs.Meaning.{select}
+use Rattle.meaning.specs.Answers.{answer, check, tableChecks, pathChecks, tableAnswer, pathAnswer, selected, evaluation, output, evaluated}
+use Rattle.meaning.specs.declared.Answer.{Answer}
+use Rattle.meaning.proofs.Bools.{and-l, and-r, truly}
+use Rattle.meaning.proofs.Checks.{table-passes, table-stops, table-accepted, path-passes, path-stops, path-accepted, most-rows}
+
+-- a table whose answer is 0 has at most 4,096 rows, a path whose answer is 0 at most 256
+pub table-fits : (t : List ℕ) → tableAnswer t .number ≡ 0 → rows t ≤ mostRows
+unfolding accepted lengthAllowed
+table-fits t e = leb→le (rows t) mostRows (and-r (eqb (length t % 4) 0 && leb 1 (rows t)) (leb (rows t) mostRows)
+    (and-l (lengthAllowed t) (not (some (broken t) (upTo (rows t)))) (truly (table-accepted t e))))
+
+pub path-fits : (p : List ℕ) (literals : List Float) → pathAnswer p literals .number ≡ 0 → rowsOf p ≤ mostPathRows
+path-fits p literals e = most-rows p (path-accepted p literals e .0)
+
+module _ (t p : List ℕ) (literals : List Float) (start : ℕ) (out : List ℕ) where
+  -- an answer and an output, as evaluation has them
+  abbrev pub Outcome : Answer → List ℕ → Type 0
+  Outcome a out' = (a ≡ evaluation t p literals start (length out)) × (out' ≡ evaluated t p literals start out)
+
+  -- a number that is not 0 leaves the output as it was
+  refused : (a : Answer) → a ≡ evaluation t p literals start (length out) → (a .number ≡ 0 → ⊥) → Outcome a out
+  unfolding evaluated output
+  refused a e f = (e, rw (← e, ne-eqb (a .number) 0 f))
+
+  pub table-refused : (a : Answer) → a ≡ tableAnswer t → (a .number ≡ 0 → ⊥) → Outcome a out
+  unfolding evaluation
+  table-refused a e f = refused a (e ∙ sym (table-stops t (λ z. f (ap (λ (a : Answer). a .number) e ∙ z)) _)) f
+
+  module _ (table-ok : tableAnswer t .number ≡ 0) where
+    pub path-refused : (a : Answer) → a ≡ pathAnswer p literals → (a .number ≡ 0 → ⊥) → Outcome a out
+    unfolding evaluation
+    path-refused a e f = refused a (e ∙ sym (table-passes t table-ok _ ∙ path-stops p literals (λ z. f (ap (λ (a : Answer). a .number) e ∙ z)) _)) f
+
+    module _ (path-ok : pathAnswer p literals .number ≡ 0) where
+      accepted-on : (a : Answer) → a ≡ check (leb (rows t) start) 7 start
+          (check (ltb (length out) (length (selected t p literals start))) 8 (length (selected t p literals start))
+          (answer 0 (length (selected t p literals start)))) → a ≡ evaluation t p literals start (length out)
+      unfolding evaluation
+      accepted-on a e = e ∙ sym (table-passes t table-ok _ ∙ path-passes p literals path-ok _)
+
+      -- 7: the start node is not below the row count
+      pub start-refused : (a : Answer) → rows t ≤ start → a ≡ answer 7 start → Outcome a out
+      start-refused a h e = refused a (accepted-on a (rw (le-leb (rows t) start h) e)) (λ z. absurd (omega (arith, ap (λ (a : Answer). a .number) e)))
+
+      module _ (below : start < rows t) (l : ℕ) (is-l : l ≡ rowsOf p) (s : List ℕ) (is-s : s ≡ select t literals (tree p l) start) (n : ℕ) (is-n : n ≡ length s) (a : Answer) where
+        all-selected : s ≡ selected t p literals start
+        all-selected = is-s ∙ ap (λ (l : ℕ). select t literals (tree p l) start) is-l
+
+        -- 8: more are selected than the output holds
+        pub room-refused : length out < n → a ≡ answer 8 n → Outcome a out
+        room-refused h e = refused a (accepted-on a (rw (lt-leb (rows t) start below, ← all-selected, ← is-n, lt-ltb (length out) n h) e)) (λ z. absurd (omega (arith, ap (λ (a : Answer). a .number) e)))
+
+        -- 0: what is selected stands at the front, and the rest is as it was
+        pub all-listed : (out' : List ℕ) → n ≤ length out → a ≡ answer 0 n → out' ≡ s ++ drop (length s) out → Outcome a out'
+        unfolding evaluated output
+        all-listed out' h e w =
+            let r : a ≡ evaluation t p literals start (length out) = accepted-on a (rw (lt-leb (rows t) start below, ← all-selected, ← is-n, le-ltb (length out) n h) e) in
+            (r, rw (← r, e, ← all-selected) w)

@@ -1,0 +1,24 @@
+use Prim.Native.Nat.{ℕ, _+_, _-_, _*_, _<_, _≤_}
+use mathlib.Core.Path.{_≡_, refl, sym, ap, _∙_}
+use native.Mathlib.Omega.{arith}
+use borrow.Author.Needs.{needs}
+use Rattle.select.proofs.cycle.tally.Reads as reads
+use Rattle.select.proofs.cycle.+expression+keep+select+spread+step+tally+walk.Lts-tally as lts
+use Rattle.select.proofs.cycle.+expression+keep+select+spread+step+tally+walk.Proof.Shared.{tally-at as given, tally-calls as calls}
+
+module _ (t : ℕ) where
+  pub slice-aggregate-select : lts.Need-slice-aggregate-select (calls t) (given t) reads.Post
+  slice-aggregate-select c = search needs
+
+  pub select-requires : lts.Need-select-requires (calls t) (given t) reads.Post
+  select-requires c κs = search needs
+
+  pub slice-aggregate-count-marks : lts.Need-slice-aggregate-count-marks (calls t) (given t) reads.Post
+  slice-aggregate-count-marks c = search needs
+
+  pub count-marks-requires : lts.Need-count-marks-requires (calls t) (given t) reads.Post
+  count-marks-requires c κs = search needs
+
+  pub returns : lts.Need-returns (calls t) (given t) reads.Post
+  returns c = (cc, search needs)
+

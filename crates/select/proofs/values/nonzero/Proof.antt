@@ -1,0 +1,22 @@
+-- `select::values::nonzero` meets its contract: only NaN differs from itself.
+-- Assumes nothing.
+use mathlib.Core.Path.{sym, _∙_}
+use lib.Ieee
+use Rattle.meaning.specs.Meaning.{float}
+use Rattle.meaning.proofs.Numbers.{nonzero-by}
+use borrow.Author.Needs.{needs}
+use Rattle.select.proofs.values.nonzero.Statement.{statement}
+use Rattle.select.proofs.values.nonzero.Tie as tie
+use Rattle.select.proofs.values.nonzero.Reads as reads
+use Rattle.select.proofs.values.nonzero.Lts as lts
+use Rattle.basics.proofs.both.Reads as both-reads
+
+both-requires : tie.Need-both-requires
+both-requires c κs = search needs
+
+returns : tie.Need-returns
+unfolding float Ieee.ofInt Ieee.ofBits
+returns c = c .both .ensures ∙ sym (nonzero-by _)
+
+pub nonzero-spec : {M : Type 1} → statement M
+nonzero-spec = tie.close (tie.spec both-requires returns)

@@ -1,0 +1,65 @@
+// The evaluator: what a path selects from a node of a table (document 01, "Meaning" and "Numbers given back").
+mod candidates;
+mod cycle;
+mod marks;
+mod values;
+
+use basics::given;
+use basics::wide;
+use cycle::select;
+use marks::count_marks;
+use marks::list_marks;
+use meaning::Answer;
+use path::check::check_path;
+use table::check::check_table;
+use table::row_count;
+ghost use mathlib.Core.Path.{_≡_};
+ghost use Prim.Native.Nat.{_<_};
+ghost use lib.ListN.{length};
+ghost use Rattle.meaning.specs.Answers.{tableAnswer, pathAnswer, evaluation, evaluated};
+
+// The most rows of a table: the length of every buffer.
+const MOST_ROWS: usize = 4096;
+
+// Evaluation of a path and on a table that are accepted: 7 for a start node that is none, 8 where out has no room, 0 with what is
+// selected at the front of out.
+fn evaluate_accepted(table: &[u32], path: &[u32], literals: &[f64], start: usize, out: &mut [u32]) -> Answer
+    requires { ⌜ (start < 4294967296) × (tableAnswer (now table) .number ≡ 0) × (pathAnswer (now path) (now literals) .number ≡ 0) ⌝ }
+    ensures { λ r. ⌜ (r ≡ evaluation (now (table .entry)) (now (path .entry)) (now (literals .entry)) start (length (now (out .entry)))) × (now (out .exit) ≡ evaluated (now (table .entry)) (now (path .entry)) (now (literals .entry)) start (now (out .entry))) ⌝ }
+{
+    if row_count(table) <= start {
+        return given(7, start);
+    }
+    let mut marks = [false; MOST_ROWS];
+    select(
+        table,
+        path,
+        literals,
+        path::row_count(path),
+        start,
+        &mut marks,
+    );
+    let n = count_marks(table, &marks);
+    if out.len() < n {
+        return given(8, n);
+    }
+    list_marks(table, &marks, out);
+    given(0, n)
+}
+
+// Evaluates a path on a table from a start node, for any inputs. The table is checked first, then the path, then the start node, then
+// the room. On 0 the selected nodes stand ascending at the front of out and the place is their count; the rest of out, and on every
+// other number all of it, is as it was.
+pub fn evaluate(table: &[u32], path: &[u32], literals: &[f64], start: u32, out: &mut [u32]) -> Answer
+    ensures { λ r. ⌜ (r ≡ evaluation (now (table .entry)) (now (path .entry)) (now (literals .entry)) start (length (now (out .entry)))) × (now (out .exit) ≡ evaluated (now (table .entry)) (now (path .entry)) (now (literals .entry)) start (now (out .entry))) ⌝ }
+{
+    let of_table = check_table(table);
+    if of_table.number != 0 {
+        return of_table;
+    }
+    let of_path = check_path(path, literals);
+    if of_path.number != 0 {
+        return of_path;
+    }
+    evaluate_accepted(table, path, literals, wide(start), out)
+}
