@@ -19,3 +19,4 @@ pub mod Filters
 pub mod Numbers
 pub mod Evaluation
 pub mod Outcome
+pub mod Backward

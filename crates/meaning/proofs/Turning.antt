@@ -46,7 +46,7 @@ unfolding axisOf inverseOf inverse
 inverse-number n = sym (List·getD-map axisOf inverses n 0) ∙ List·getD-map inverse axes n A.self
 
 -- y is on an axis of x exactly when x is on the axis of the inverse number of y
-inverse-on : (t : List ℕ) (c x y : ℕ) → on t (axisOf c) x y ≡ on t (axisOf (inverseOf c)) y x
+pub inverse-on : (t : List ℕ) (c x y : ℕ) → on t (axisOf c) x y ≡ on t (axisOf (inverseOf c)) y x
 inverse-on t c x y = rw (inverse-number c) (inverse-axis t (axisOf c) x y)
 
 -- ---- chains of nodes

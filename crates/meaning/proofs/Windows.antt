@@ -25,7 +25,7 @@ some-below p q zero h = unfold upTo some in refl
 some-below p q (suc n) h = some-last p n ∙ rw (some-below p q n (λ x l. h x (omega arith)), h n (omega arith)) (sym (some-last q n))
 
 -- one test or the other
-some-or : (p q : ℕ → Bool) (l : List ℕ) → some (λ x. p x || q x) l ≡ (some p l || some q l)
+pub some-or : (p q : ℕ → Bool) (l : List ℕ) → some (λ x. p x || q x) l ≡ (some p l || some q l)
 unfolding some
 some-or p q [] = refl
 some-or p q (x ∷ xs) = rw (some-or p q xs) (mix (p x) (q x) (some p xs) (some q xs))

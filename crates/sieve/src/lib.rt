@@ -1,0 +1,80 @@
+// Truths decided for all rows of a set at once: a state for each row in one array, so that no nested operand needs a buffer.
+// At nesting level l the rows in question have the state 2l, and all others a lower one; where the truth does not hold the
+// state becomes 2l + 1.
+ghost use mathlib.Core.Path.{_≡_};
+ghost use mathlib.Core.Bool.{false, cond};
+ghost use Prim.Native.Nat.{_<_, _≤_};
+ghost use lib.ListN.{length, getD};
+ghost use Rattle.sieve.specs.Sieve.{Recast, Exchanged, Sieved, Entered, Left};
+
+// One of two states.
+pub fn choose(test: bool, a: u16, b: u16) -> u16
+    ensures { λ r. ⌜ r ≡ cond test a b ⌝ }
+{
+    if test { a } else { b }
+}
+
+// Each of the first n states that is `from` becomes `to`.
+pub fn recast(states: &mut [u16], n: usize, from: u16, to: u16)
+    requires { ⌜ n ≤ length (now states) ⌝ }
+    ensures { λ _. ⌜ Recast n from to (now (states .entry)) (now (states .exit)) ⌝ }
+{
+    let mut i = 0;
+    while i < n {
+        let s = states[i];
+        states[i] = choose(s == from, to, s);
+        i += 1;
+    }
+}
+
+// Exchanges active and active + 1 among the first n states.
+pub fn exchange(states: &mut [u16], n: usize, active: u16)
+    requires { ⌜ n ≤ length (now states) ⌝ ∗ ⌜ active < 65535 ⌝ }
+    ensures { λ _. ⌜ Exchanged n active (now (states .entry)) (now (states .exit)) ⌝ }
+{
+    let next = active + 1;
+    let mut i = 0;
+    while i < n {
+        let s = states[i];
+        states[i] = choose(s == active, next, choose(s == next, active, s));
+        i += 1;
+    }
+}
+
+// An active state among the first n whose row is not marked becomes active + 1.
+pub fn settle(states: &mut [u16], marks: &[bool], n: usize, active: u16)
+    requires { ⌜ (n ≤ length (now states)) × (n ≤ length (now marks)) ⌝ ∗ ⌜ active < 65535 ⌝ }
+    ensures { λ _. ⌜ Sieved (λ y. getD (now (marks .entry)) y false) active n (now (states .entry)) (now (states .exit)) ⌝ }
+{
+    let next = active + 1;
+    let mut i = 0;
+    while i < n {
+        let s = states[i];
+        states[i] = choose(s == active, choose(marks[i], active, next), s);
+        i += 1;
+    }
+}
+
+// The first n rows are active at the first level where they are marked.
+pub fn enter(marks: &[bool], states: &mut [u16], n: usize)
+    requires { ⌜ (n ≤ length (now states)) × (n ≤ length (now marks)) ⌝ }
+    ensures { λ _. ⌜ Entered n (now (marks .entry)) (now (states .exit)) ⌝ }
+{
+    let mut i = 0;
+    while i < n {
+        states[i] = choose(marks[i], 2, 0);
+        i += 1;
+    }
+}
+
+// The first n rows are marked where they are active at the first level.
+pub fn leave(states: &[u16], marks: &mut [bool], n: usize)
+    requires { ⌜ (n ≤ length (now states)) × (n ≤ length (now marks)) ⌝ }
+    ensures { λ _. ⌜ Left n (now (states .entry)) (now (marks .exit)) ⌝ }
+{
+    let mut i = 0;
+    while i < n {
+        marks[i] = states[i] == 2;
+        i += 1;
+    }
+}
