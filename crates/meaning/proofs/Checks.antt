@@ -194,6 +194,16 @@ pub most-rows : (p : List ℕ) → pathLengthAllowed p ≡ true → rowsOf p ≤
 unfolding pathLengthAllowed
 most-rows p h = leb→le (rowsOf p) mostPathRows (and-r (eqb (length p % 5) 0 && leb 1 (rowsOf p)) (leb (rowsOf p) mostPathRows) (truly h))
 
+-- and one with another answer is not
+pub table-refused : (t : List ℕ) → (tableAnswer t .number ≡ 0 → ⊥) → accepted t ≡ false
+unfolding tableAnswer tableChecks accepted
+table-refused t f = go (lengthAllowed t) (some (broken t) (upTo (rows t))) f
+  where
+    go : (a b : Bool) → (check (not a) 1 0 (check b 2 (lowest (broken t) (rows t)) (answer 0 (rows t))) .number ≡ 0 → ⊥) → (a && not b) ≡ false
+    go true true g = refl
+    go true false g = absurd (g refl)
+    go false b g = refl
+
 -- of a path whose answer is 0 no check applies
 pub path-accepted : (p : List ℕ) (literals : List Float) → pathAnswer p literals .number ≡ 0
     → (pathLengthAllowed p ≡ true)

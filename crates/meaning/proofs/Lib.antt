@@ -20,3 +20,5 @@ pub mod Numbers
 pub mod Evaluation
 pub mod Outcome
 pub mod Backward
+pub mod View
+pub mod Unique

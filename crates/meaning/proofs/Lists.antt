@@ -164,10 +164,19 @@ keep-upTo p q (suc n) h =
     keep-append p (upTo n) (n ∷ [])
     ∙ rw (keep-upTo p q n (λ y l. h y (omega arith)), h n (omega arith)) (sym (keep-append q (upTo n) (n ∷ [])))
 
-pub keep-all : (l : List ℕ) → keep (λ y. true) l ≡ l
+-- a test that fails at each entry keeps none, one that holds at each keeps all
+pub keep-none : (p : ℕ → Bool) (l : List ℕ) → ((i : ℕ) → i < length l → p (getD l i 0) ≡ false) → keep p l ≡ []
 unfolding keep
-keep-all [] = refl
-keep-all (x ∷ xs) = ap {B = List ℕ} (λ r. x ∷ r) (keep-all xs)
+keep-none p [] h = refl
+keep-none p (x ∷ xs) h = rw (h 0 (omega arith), keep-none p xs (λ i k. h (suc i) (omega arith)))
+
+pub keep-each : (p : ℕ → Bool) (l : List ℕ) → ((i : ℕ) → i < length l → p (getD l i 0) ≡ true) → keep p l ≡ l
+unfolding keep
+keep-each p [] h = refl
+keep-each p (x ∷ xs) h = rw (h 0 (omega arith), keep-each p xs (λ i k. h (suc i) (omega arith)))
+
+pub keep-all : (l : List ℕ) → keep (λ y. true) l ≡ l
+keep-all l = keep-each (λ y. true) l (λ i h. refl)
 
 pub keep-keep : (p q : ℕ → Bool) (l : List ℕ) → keep q (keep p l) ≡ keep (λ y. p y && q y) l
 unfolding keep
@@ -228,3 +237,24 @@ lowest-some f (suc n) = some-last f n ∙ go (ltb (lowest f n) n) (f n) refl (lo
     go true c e h = rw (h, e) (sym (lt-ltb (lowest f n) (suc n) (omega (arith, ltb-true (lowest f n) n e))))
     go false true e h = rw (h, e) (sym (lt-ltb n (suc n) (omega arith)))
     go false false e h = rw (h, e) (sym (le-ltb (suc n) (suc n) (omega arith)))
+
+-- below the lowest the test fails, and at it, where it is below n, it holds
+pub lowest-below : (f : ℕ → Bool) (n j : ℕ) → j < lowest f n → f j ≡ false
+unfolding lowest
+lowest-below f zero j h = absurd (omega arith)
+lowest-below f (suc n) j h = go (ltb (lowest f n) n) (f n) refl refl (lowest-below f n j) h
+  where
+    go : (b c : Bool) → ltb (lowest f n) n ≡ b → f n ≡ c → (j < lowest f n → f j ≡ false) → j < cond b (lowest f n) (cond c n (suc n)) → f j ≡ false
+    go true c e d r k = r k
+    go false true e d r k = r (omega (arith, ltb-false (lowest f n) n e))
+    go false false e d r k = ⊎-elim (λ l. r (omega (arith, ltb-false (lowest f n) n e))) (λ l. let s : j ≡ n = omega arith in ap f s ∙ d) (lt-or-ge j n)
+
+pub lowest-at : (f : ℕ → Bool) (n : ℕ) → lowest f n < n → f (lowest f n) ≡ true
+unfolding lowest
+lowest-at f zero h = absurd (omega arith)
+lowest-at f (suc n) h = go (ltb (lowest f n) n) (f n) refl refl (lowest-at f n) h
+  where
+    go : (b c : Bool) → ltb (lowest f n) n ≡ b → f n ≡ c → (lowest f n < n → f (lowest f n) ≡ true) → cond b (lowest f n) (cond c n (suc n)) < suc n → f (cond b (lowest f n) (cond c n (suc n))) ≡ true
+    go true c e d r k = r (ltb-true (lowest f n) n e)
+    go false true e d r k = d
+    go false false e d r k = absurd (omega arith)

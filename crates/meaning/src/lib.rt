@@ -19,3 +19,9 @@ pub struct Answer {
     pub number: u32,
     pub place: u32,
 }
+
+// A part of a caller's list: where it begins, and how many entries it has.
+pub struct Part {
+    pub begin: usize,
+    pub length: usize,
+}
