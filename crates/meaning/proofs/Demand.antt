@@ -119,7 +119,8 @@ unfolding back
 tidy-back none done h k = k
 tidy-back (node op a b c d) done h k = tidy-back a (node R.step done (predicates a) (inverseOf c) (test a)) (h .4) (tidy-step a done (inverseOf c) (h .4) k)
 
-weight-back : (s done : Tree) → weight (back s done) + weight (predicates s) ≡ weight done + weight s
+-- the rows of the steps back: a chain's own but for the last step's predicates
+pub weight-back : (s done : Tree) → weight (back s done) + weight (predicates s) ≡ weight done + weight s
 unfolding back weight predicates
 weight-back none done = refl
 weight-back (node op a b c d) done = omega (arith, weight-back a (node R.step done (predicates a) (inverseOf c) (test a)))
@@ -235,7 +236,8 @@ pub record Round (p q : List ℕ) (literals : List Float) : Type 0 where
   pub read : pathTree q ≡ turned (pathTree p)
   pub round : (t : List ℕ) (x y : ℕ) → x < rows t → y < rows t → has (selected t p literals x) y ≡ has (selected t q literals y) x
 
-relative-is : (op : Op) → isPath op ≡ true → isAbsolute op ≡ false → op ≡ R.relative
+-- a path that is not absolute is relative
+pub relative-is : (op : Op) → isPath op ≡ true → isAbsolute op ≡ false → op ≡ R.relative
 unfolding isPath isAbsolute opOf
 relative-is op h k = or-e (eqb (code op) 22) (eqb (code op) 23) (truly h)
     (λ e. sym (op-code op) ∙ ap opOf (eqb→eq (code op) 22 e))

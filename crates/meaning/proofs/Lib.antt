@@ -22,3 +22,5 @@ pub mod Outcome
 pub mod Backward
 pub mod View
 pub mod Unique
+pub mod Counting
+pub mod Written

@@ -182,7 +182,8 @@ reads-back (node op a b c d) p n tidy laid =
       reads-back b p (n + weight a) (tidy .5) (laid .1),
     )
 
-link-zero : (e : Tree) → link 0 e ≡ weight e
+-- the link to a tree at the front
+pub link-zero : (e : Tree) → link 0 e ≡ weight e
 unfolding link weight
 link-zero none = refl
 link-zero (node op a b c d) = omega arith

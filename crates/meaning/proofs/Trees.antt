@@ -35,15 +35,15 @@ axis-past n h = List·getD-eq-default A.axes A.self h
 pub past : (k n : ℕ) → k ≤ n → (n ≡ k → ⊥) → k < n
 past k n h f = omega arith
 
+-- a number from 1 on that is none of 1 to 10 is above 10
+pub past-axes : (n : ℕ) → 1 ≤ n → (n ≡ 1 → ⊥) → (n ≡ 2 → ⊥) → (n ≡ 3 → ⊥) → (n ≡ 4 → ⊥) → (n ≡ 5 → ⊥) → (n ≡ 6 → ⊥) → (n ≡ 7 → ⊥) → (n ≡ 8 → ⊥) → (n ≡ 9 → ⊥) → (n ≡ 10 → ⊥) → 10 < n
+past-axes n h n1 n2 n3 n4 n5 n6 n7 n8 n9 n10 =
+    past 10 n (past 9 n (past 8 n (past 7 n (past 6 n (past 5 n (past 4 n (past 3 n (past 2 n (past 1 n h n1) n2) n3) n4) n5) n6) n7) n8) n9) n10
+
 -- an axis that is none of 1 to 10 reads as self
 pub axis-rest : (n : ℕ) → (n ≡ 1 → ⊥) → (n ≡ 2 → ⊥) → (n ≡ 3 → ⊥) → (n ≡ 4 → ⊥) → (n ≡ 5 → ⊥) → (n ≡ 6 → ⊥) → (n ≡ 7 → ⊥) → (n ≡ 8 → ⊥) → (n ≡ 9 → ⊥) → (n ≡ 10 → ⊥) → axisOf n ≡ A.self
 axis-rest zero n1 n2 n3 n4 n5 n6 n7 n8 n9 n10 = unfold axisOf in refl
-axis-rest (suc n) n1 n2 n3 n4 n5 n6 n7 n8 n9 n10 =
-    let m : ℕ = suc n in
-    axis-past m (past 10 m (past 9 m (past 8 m (past 7 m (past 6 m (past 5 m (past 4 m (past 3 m (past 2 m (past 1 m first n1) n2) n3) n4) n5) n6) n7) n8) n9) n10)
-  where
-    first : 1 ≤ suc n
-    first = suc-le-suc zero-le
+axis-rest (suc n) n1 n2 n3 n4 n5 n6 n7 n8 n9 n10 = axis-past (suc n) (past-axes (suc n) (suc-le-suc zero-le) n1 n2 n3 n4 n5 n6 n7 n8 n9 n10)
 
 -- a test that is none of 0 to 4 asks for a name
 pub test-rest : (n : ℕ) → (n ≡ 0 → ⊥) → (n ≡ 1 → ⊥) → (n ≡ 2 → ⊥) → (n ≡ 3 → ⊥) → (n ≡ 4 → ⊥) → testOf n ≡ A.element (n - 16)

@@ -1,4 +1,6 @@
 // Reads of a path's rows, each equal to its definition (document 01, "The path form").
+pub mod counting;
+
 use basics::at_most;
 use basics::both;
 use basics::either;

@@ -1,0 +1,71 @@
+-- Which predicates and steps count, row by row: the definitions at a link, from what is read of its row and what they give at the row's links.
+-- Assumes nothing.
+use Prim.Native.Nat.{ℕ, _+_, _-_, _≤_}
+use mathlib.Core.Path.{_≡_, refl}
+use mathlib.Core.Bool.{Bool, true, false, _||_, cond}
+use mathlib.Core.List.{List}
+use lib.Dec.{eqb}
+use native.Mathlib.Omega.{arith}
+use Rattle.meaning.specs.Rows.{opOf, field, firstLink, secondLink, isNumber}
+use Rattle.meaning.specs.Tree.{tree}
+use Rattle.meaning.specs.Turning.{contextual, overPath, numeric, asks, counting, steps, firstCounting}
+use Rattle.meaning.proofs.Trees.{op-is, tree-zero, tree-row}
+
+-- ---- ops
+
+pub contextual-ops : (n : ℕ) → contextual (opOf n) ≡ (eqb n 2 || eqb n 3)
+unfolding contextual
+contextual-ops n = rw (op-is 2 n (omega arith) (omega arith), op-is 3 n (omega arith) (omega arith))
+
+pub over-path-ops : (n : ℕ) → overPath (opOf n) ≡ (eqb n 20 || eqb n 21)
+unfolding overPath
+over-path-ops n = rw (op-is 20 n (omega arith) (omega arith), op-is 21 n (omega arith) (omega arith))
+
+module _ (p : List ℕ) (l : ℕ) where
+  -- ---- no link
+
+  pub numeric-none : l ≡ 0 → false ≡ numeric (tree p l)
+  unfolding numeric
+  numeric-none e = rw (e, tree-zero p)
+
+  pub asks-none : l ≡ 0 → false ≡ asks (tree p l)
+  unfolding asks
+  asks-none e = rw (e, tree-zero p)
+
+  pub counting-none : l ≡ 0 → false ≡ counting (tree p l)
+  unfolding counting
+  counting-none e = rw (e, tree-zero p)
+
+  pub steps-none : l ≡ 0 → (0 ≡ steps (tree p l)) × (0 ≡ firstCounting (tree p l))
+  unfolding steps firstCounting
+  steps-none e = rw (e, tree-zero p) (refl, refl)
+
+  -- ---- a row: its op, and its links a and b
+
+  module _ (h : (l ≡ 0) → ⊥) where
+    pub numeric-row : (op : ℕ) → op ≡ field p (l - 1) 0 → (r : Bool) → r ≡ isNumber (opOf op) → r ≡ numeric (tree p l)
+    unfolding numeric
+    numeric-row op e r k = rw (tree-row p l h, ← e) k
+
+    pub asks-itself : (op : ℕ) → op ≡ field p (l - 1) 0 → (k : Bool) → k ≡ contextual (opOf op) → k ≡ true → true ≡ asks (tree p l)
+    unfolding asks
+    asks-itself op e k f t = rw (tree-row p l h, ← e, ← f, t)
+
+    pub asks-no-path : (op : ℕ) → op ≡ field p (l - 1) 0 → (k o : Bool) → k ≡ contextual (opOf op) → k ≡ false → o ≡ overPath (opOf op) → o ≡ true → false ≡ asks (tree p l)
+    unfolding asks
+    asks-no-path op e k o f t g u = rw (tree-row p l h, ← e, ← f, t, ← g, u)
+
+    pub asks-links : (op : ℕ) → op ≡ field p (l - 1) 0 → (k o : Bool) → k ≡ contextual (opOf op) → k ≡ false → o ≡ overPath (opOf op) → o ≡ false
+        → (a b : ℕ) → a ≡ firstLink p (l - 1) → b ≡ secondLink p (l - 1) → (u v r : Bool) → u ≡ asks (tree p a) → v ≡ asks (tree p b) → r ≡ (u || v) → r ≡ asks (tree p l)
+    unfolding asks
+    asks-links op e k o f t g n a b i j u v r x y z = rw (tree-row p l h, ← e, ← f, t, ← g, n, ← i, ← j, ← x, ← y) z
+
+    module _ (a b : ℕ) (is-a : a ≡ firstLink p (l - 1)) (is-b : b ≡ secondLink p (l - 1)) where
+      pub counting-row : (u v w x r : Bool) → u ≡ counting (tree p a) → v ≡ numeric (tree p b) → w ≡ asks (tree p b) → x ≡ (v || w) → r ≡ (u || x) → r ≡ counting (tree p l)
+      unfolding counting
+      counting-row u v w x r f g k m n = rw (tree-row p l h, ← is-a, ← is-b, ← f, ← g, ← k, ← m) n
+
+      pub steps-row : (n first : ℕ) (own : Bool) (r : ℕ) → (n ≡ steps (tree p a)) × (first ≡ firstCounting (tree p a)) → own ≡ counting (tree p b)
+          → r ≡ cond (eqb first 0) (cond own (n + 1) 0) first → (n + 1 ≡ steps (tree p l)) × (r ≡ firstCounting (tree p l))
+      unfolding steps firstCounting
+      steps-row n first own r f g k = rw (tree-row p l h, ← is-a, ← is-b, ← f .0, ← f .1, ← g) (refl, k)
