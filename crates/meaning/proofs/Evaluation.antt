@@ -1,24 +1,23 @@
 -- The meaning of the row that a link names, stated over what code has read of it: `tree-row` is the only unfolding.
 -- Assumes nothing.
-use Prim.Native.Nat.{ℕ, zero, suc, _+_, _-_, _<_, _≤_}
+use Prim.Native.Nat.{ℕ, zero, suc, _-_, _<_, _≤_}
 use mathlib.Core.Path.{_≡_, refl, sym, ap, _∙_}
-use mathlib.Core.Logic.{_⊎_, inl, inr}
+use mathlib.Core.Logic.{inl, inr}
 use mathlib.Core.Bool.{Bool, true, false, _&&_, _||_, not, true≢false}
 use mathlib.Core.List.{List}
-use lib.ListN.{length, getD, take}
+use lib.ListN.{length, getD}
 use lib.Dec.{leb, eqb}
-use lib.Ieee.{Float, unlike}
+use lib.Ieee.{Float}
 use native.Mathlib.Omega.{arith}
-use borrow.Author.Tests.{lt-leb, ne-eqb}
+use borrow.Author.Tests.{lt-leb}
 use Rattle.meaning.specs.Lists.{upTo, some}
 use Rattle.meaning.specs.Axis.{axisOf, testOf, candidates}
-use Rattle.meaning.specs.Rows.{Op, code, opOf, field, firstLink, secondLink}
-use Rattle.meaning.specs.Rows as R
-use Rattle.meaning.specs.Tree.{Tree, none, node, tree, indexOrAxis, testAt}
+use Rattle.meaning.specs.Rows.{code, opOf, field, firstLink, secondLink}
+use Rattle.meaning.specs.Tree.{node, tree, indexOrAxis, testAt}
 use Rattle.meaning.specs.Meaning.{float, holds, applied, keepAt, startOf, union, value, select, walk, filtered}
-use Rattle.meaning.specs.Turning.{contextual, overPath}
+use Rattle.meaning.specs.Turning.{overPath}
 use Rattle.meaning.specs.declared.Value.{Value}
-use Rattle.meaning.specs.declared.Value.the-variants.{Truth, Number}
+use Rattle.meaning.specs.declared.Value.the-variants.{Truth}
 use Rattle.meaning.specs.declared.Context.{Context}
 use Rattle.meaning.proofs.Bools.{eq-or-ne}
 use Rattle.meaning.proofs.Trees.{agree, op-is, op-past, past, tree-zero, tree-row}

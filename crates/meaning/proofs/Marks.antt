@@ -58,7 +58,7 @@ module _ (marks : List Bool) where
     | inl e ↦ rw e (omega arith)
     | inr l ↦
         let more : length (marked (suc n)) ≡ length (marked n) + length (keep (λ z. getD marks z false) (n ∷ [])) =
-                ap length (keep-append (λ z. getD marks z false) (upTo n) (n ∷ [])) ∙ length-append (marked n) (keep (λ z. getD marks z false) (n ∷ [])) in
+        ap length (keep-append (λ z. getD marks z false) (upTo n) (n ∷ [])) ∙ length-append (marked n) (keep (λ z. getD marks z false) (n ∷ [])) in
         omega (arith, fewer-below i n (omega arith))
   ]
 

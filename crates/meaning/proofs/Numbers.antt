@@ -2,19 +2,17 @@
 -- of rounding, which changes nothing that the format holds.
 -- Assumes nothing.
 use Prim.Native.Nat.{ℕ, _+_, _*_, _^_, _<_, _≤_}
-use mathlib.Core.Path.{_≡_, refl, sym, ap, _∙_}
-use mathlib.Core.Bool.{Bool, true, false, _&&_, _||_, not, Bool·beq}
-use lib.Dec.{T, eqb, ltb, eqb→eq, ltb→lt}
+use mathlib.Core.Path.{_≡_, refl, sym}
+use mathlib.Core.Bool.{Bool, true, false, _&&_, _||_, not}
+use lib.Dec.{ltb→lt}
 use lib.Ieee.{Float, nan, inf, fin, binary64, isNan, low, prec, up, down}
 use lib.Ieee as Ieee
 use lib.Ieee.Exact.{HasValue, round-exact}
-use lib.Ieee.Positive.{den-pos}
 use lib.Pow.{shl-lt}
 use native.Mathlib.Omega.{arith}
 use borrow.Author.Tests.{eq-eqb}
-use native.Mathlib.Nat.{lt-trans, mul-one, mul-right-comm, eq-of-mul-eq-mul-right}
+use native.Mathlib.Nat.{lt-trans, mul-one}
 use Rattle.meaning.specs.Meaning.{float, nonzero}
-use Rattle.meaning.proofs.Bools.{same, is-true, and-l, eq→eqb}
 
 -- a whole number up to 8,192 as a double is that number: finite, not negative, n over 1
 pub float-exact : (n : ℕ) → n ≤ 8192 → HasValue (float n) false n 1

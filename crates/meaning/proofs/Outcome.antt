@@ -1,8 +1,8 @@
 -- What evaluation answers and leaves in its output, check by check, stated over what code has found.
 -- Assumes nothing.
 use Prim.Native.Nat.{ℕ, _%_, _<_, _≤_}
-use mathlib.Core.Path.{_≡_, refl, sym, ap, _∙_}
-use mathlib.Core.Bool.{Bool, true, false, _&&_, not}
+use mathlib.Core.Path.{_≡_, sym, ap, _∙_}
+use mathlib.Core.Bool.{_&&_, not}
 use mathlib.Core.List.{List, _++_}
 use lib.ListN.{length, drop}
 use lib.Dec.{leb, ltb, eqb, leb→le}
@@ -14,7 +14,7 @@ use Rattle.meaning.specs.Table.{rows, mostRows, lengthAllowed, broken, a
 use Rattle.meaning.specs.Rows.{rowsOf, mostPathRows}
 use Rattle.meaning.specs.Tree.{tree}
 use Rattle.meaning.specs.Meaning.{select}
-use Rattle.meaning.specs.Answers.{answer, check, tableChecks, pathChecks, tableAnswer, pathAnswer, selected, evaluation, output, evaluated}
+use Rattle.meaning.specs.Answers.{answer, check, tableAnswer, pathAnswer, selected, evaluation, output, evaluated}
 use Rattle.meaning.specs.declared.Answer.{Answer}
 use Rattle.meaning.proofs.Bools.{and-l, and-r, truly}
 use Rattle.meaning.proofs.Checks.{table-passes, table-stops, table-accepted, path-passes, path-stops, path-accepted, most-rows}

@@ -7,7 +7,7 @@ use table::row_count;
 ghost use mathlib.Core.Path.{_≡_};
 ghost use Prim.Native.Nat.{_<_, _≤_};
 ghost use lib.ListN.{length, getD, take};
-ghost use Rattle.meaning.specs.Table.{rows};
+ghost use Rattle.meaning.specs.Table.{rows, mostRows};
 ghost use Rattle.meaning.specs.Axis.{axisOf, testOf, ordered, candidates};
 
 // The i-th of n rows in document order, or in reverse.
@@ -20,7 +20,7 @@ fn nth(reverse: bool, n: usize, i: usize) -> usize
 
 // Writes the candidates to the front of the list.
 pub fn list_candidates(table: &[u32], axis: usize, test: usize, x: usize, list: &mut [u32]) -> usize
-    requires { ⌜ (rows (now table) ≤ 4096) × (x < 4294967296) × (rows (now table) ≤ length (now list)) ⌝ }
+    requires { ⌜ (rows (now table) ≤ mostRows) × (x < 4294967296) × (rows (now table) ≤ length (now list)) ⌝ }
     ensures { λ r. ⌜ (take r (now (list .exit)) ≡ candidates (now (table .entry)) (axisOf axis) (testOf test) x) × (r ≤ rows (now (table .entry))) ⌝ }
 {
     let n = row_count(table);

@@ -28,7 +28,7 @@ ghost use mathlib.Core.Bool.{false, _||_};
 ghost use Prim.Native.Nat.{ℕ, _<_, _≤_};
 ghost use lib.ListN.{length, getD, take};
 ghost use Rattle.meaning.specs.Lists.{has};
-ghost use Rattle.meaning.specs.Table.{rows};
+ghost use Rattle.meaning.specs.Table.{mostRows};
 ghost use Rattle.meaning.specs.Tree.{tree};
 ghost use Rattle.meaning.specs.Meaning as Meaning;
 ghost use Rattle.meaning.proofs.Marks.{listed};
@@ -75,21 +75,14 @@ fn keep(
     list: &mut [u32],
     n: usize,
 ) -> usize
-    requires { ⌜ Ready (now table) link ⌝ ∗ ⌜ (n ≤ 4096) × (length (now list) ≡ 4096) ⌝ }
+    requires { ⌜ Ready (now table) link ⌝ ∗ ⌜ (n ≤ mostRows) × (length (now list) ≡ mostRows) ⌝ }
     ensures { λ r. ⌜ (take r (now (list .exit)) ≡ Meaning.filtered (now (table .entry)) (now (literals .entry)) (tree (now (path .entry)) link) (take n (now (list .entry)))) × (r ≤ n) ⌝ }
 {
     if link == 0 {
         return n;
     }
     let row = link - 1;
-    let k = keep(
-        table,
-        path,
-        literals,
-        first_link(path, row),
-        list,
-        n,
-    );
+    let k = keep(table, path, literals, first_link(path, row), list, n);
     let test = second_link(path, row);
     let size = float_of(k);
     let mut m = 0;
@@ -129,7 +122,7 @@ fn spread(
     next: &mut [bool],
     list: &mut [u32],
 )
-    requires { ⌜ Ready (now table) link ⌝ ∗ ⌜ x < 4294967296 ⌝ ∗ ⌜ length (now list) ≡ 4096 ⌝ }
+    requires { ⌜ Ready (now table) link ⌝ ∗ ⌜ x < 4294967296 ⌝ ∗ ⌜ length (now list) ≡ mostRows ⌝ }
     ensures { λ _. ⌜ ((y : ℕ) → y < length (now (next .entry)) → getD (now (next .exit)) y false ≡ (getD (now (next .entry)) y false || has (stepTo (now (table .entry)) (now (literals .entry)) (now (path .entry)) link axis test x) y)) ⌝ }
 {
     let k = list_candidates(table, axis, test, x, list);
@@ -149,7 +142,7 @@ fn step(
     next: &mut [bool],
     list: &mut [u32],
 )
-    requires { ⌜ Ready (now table) link ⌝ ∗ ⌜ (length (now marks) ≡ 4096) × (length (now next) ≡ 4096) × (length (now list) ≡ 4096) ⌝ }
+    requires { ⌜ Ready (now table) link ⌝ ∗ ⌜ (length (now marks) ≡ mostRows) × (length (now next) ≡ mostRows) × (length (now list) ≡ mostRows) ⌝ }
     ensures { λ _. ⌜ listed (now (table .entry)) (now (next .exit)) ≡ Meaning.union (now (table .entry)) (stepTo (now (table .entry)) (now (literals .entry)) (now (path .entry)) link axis test) (listed (now (table .entry)) (now (marks .entry))) ⌝ }
 {
     clear_marks(next);
@@ -173,7 +166,7 @@ fn walk(
     next: &mut [bool],
     list: &mut [u32],
 )
-    requires { ⌜ Ready (now table) link ⌝ ∗ ⌜ (length (now marks) ≡ 4096) × (length (now next) ≡ 4096) × (length (now list) ≡ 4096) ⌝ }
+    requires { ⌜ Ready (now table) link ⌝ ∗ ⌜ (length (now marks) ≡ mostRows) × (length (now next) ≡ mostRows) × (length (now list) ≡ mostRows) ⌝ }
     ensures { λ _. ⌜ listed (now (table .entry)) (now (marks .exit)) ≡ Meaning.walk (now (table .entry)) (now (literals .entry)) (tree (now (path .entry)) link) (listed (now (table .entry)) (now (marks .entry))) ⌝ }
 {
     if link == 0 {
@@ -198,7 +191,7 @@ pub fn select(
     start: usize,
     marks: &mut [bool],
 )
-    requires { ⌜ Ready (now table) link ⌝ ∗ ⌜ length (now marks) ≡ 4096 ⌝ }
+    requires { ⌜ Ready (now table) link ⌝ ∗ ⌜ length (now marks) ≡ mostRows ⌝ }
     ensures { λ _. ⌜ listed (now (table .entry)) (now (marks .exit)) ≡ Meaning.select (now (table .entry)) (now (literals .entry)) (tree (now (path .entry)) link) start ⌝ }
 {
     if link == 0 {
@@ -210,21 +203,13 @@ pub fn select(
     let steps = first_link(path, top);
     let mut next = [false; MOST_ROWS];
     let mut list = [0u32; MOST_ROWS];
-    walk(
-        table,
-        path,
-        literals,
-        steps,
-        marks,
-        &mut next,
-        &mut list,
-    );
+    walk(table, path, literals, steps, marks, &mut next, &mut list);
 }
 
 // How many nodes the path that a link names selects from a node.
 fn tally(table: &[u32], path: &[u32], literals: &[f64], link: usize, start: usize) -> usize
     requires { ⌜ Ready (now table) link ⌝ }
-    ensures { λ r. ⌜ (r ≡ length (Meaning.select (now (table .entry)) (now (literals .entry)) (tree (now (path .entry)) link) start)) × (r ≤ 4096) ⌝ }
+    ensures { λ r. ⌜ (r ≡ length (Meaning.select (now (table .entry)) (now (literals .entry)) (tree (now (path .entry)) link) start)) × (r ≤ mostRows) ⌝ }
 {
     let mut marks = [false; MOST_ROWS];
     select(table, path, literals, link, start, &mut marks);

@@ -23,7 +23,13 @@ const MOST_ROWS: usize = 4096;
 
 // Evaluation of a path and on a table that are accepted: 7 for a start node that is none, 8 where out has no room, 0 with what is
 // selected at the front of out.
-fn evaluate_accepted(table: &[u32], path: &[u32], literals: &[f64], start: usize, out: &mut [u32]) -> Answer
+fn evaluate_accepted(
+    table: &[u32],
+    path: &[u32],
+    literals: &[f64],
+    start: usize,
+    out: &mut [u32],
+) -> Answer
     requires { ⌜ (start < 4294967296) × (tableAnswer (now table) .number ≡ 0) × (pathAnswer (now path) (now literals) .number ≡ 0) ⌝ }
     ensures { λ r. ⌜ (r ≡ evaluation (now (table .entry)) (now (path .entry)) (now (literals .entry)) start (length (now (out .entry)))) × (now (out .exit) ≡ evaluated (now (table .entry)) (now (path .entry)) (now (literals .entry)) start (now (out .entry))) ⌝ }
 {
@@ -50,7 +56,13 @@ fn evaluate_accepted(table: &[u32], path: &[u32], literals: &[f64], start: usize
 // Evaluates a path on a table from a start node, for any inputs. The table is checked first, then the path, then the start node, then
 // the room. On 0 the selected nodes stand ascending at the front of out and the place is their count; the rest of out, and on every
 // other number all of it, is as it was.
-pub fn evaluate(table: &[u32], path: &[u32], literals: &[f64], start: u32, out: &mut [u32]) -> Answer
+pub fn evaluate(
+    table: &[u32],
+    path: &[u32],
+    literals: &[f64],
+    start: u32,
+    out: &mut [u32],
+) -> Answer
     ensures { λ r. ⌜ (r ≡ evaluation (now (table .entry)) (now (path .entry)) (now (literals .entry)) start (length (now (out .entry)))) × (now (out .exit) ≡ evaluated (now (table .entry)) (now (path .entry)) (now (literals .entry)) start (now (out .entry))) ⌝ }
 {
     let of_table = check_table(table);

@@ -7,7 +7,7 @@ ghost use mathlib.Core.List.{_++_};
 ghost use Prim.Native.Nat.{ℕ, _<_, _≤_};
 ghost use lib.ListN.{length, getD, take, drop};
 ghost use Rattle.meaning.specs.Lists.{has};
-ghost use Rattle.meaning.specs.Table.{rows};
+ghost use Rattle.meaning.specs.Table.{rows, mostRows};
 ghost use Rattle.meaning.specs.Rows.{opOf};
 ghost use Rattle.meaning.specs.Meaning.{startOf};
 ghost use Rattle.meaning.proofs.Marks.{listed};
@@ -79,7 +79,7 @@ pub fn count_marks(table: &[u32], marks: &[bool]) -> usize
 
 // Writes the marked rows, ascending, at the front of a list that has room for them; the rest stays.
 pub fn list_marks(table: &[u32], marks: &[bool], list: &mut [u32])
-    requires { ⌜ (rows (now table) ≤ 4096) × (rows (now table) ≤ length (now marks)) × (length (listed (now table) (now marks)) ≤ length (now list)) ⌝ }
+    requires { ⌜ (rows (now table) ≤ mostRows) × (rows (now table) ≤ length (now marks)) × (length (listed (now table) (now marks)) ≤ length (now list)) ⌝ }
     ensures { λ _. ⌜ now (list .exit) ≡ listed (now (table .entry)) (now (marks .entry)) ++ drop (length (listed (now (table .entry)) (now (marks .entry)))) (now (list .entry)) ⌝ }
 {
     let n = row_count(table);

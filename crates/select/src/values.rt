@@ -1,8 +1,8 @@
 // Values of expressions: what an op makes of its operands, each operation once, in f64.
-use basics::both;
-use basics::either;
 use basics::at_most;
 use basics::below;
+use basics::both;
+use basics::either;
 use basics::same;
 use meaning::Context;
 use meaning::Value;
@@ -12,6 +12,7 @@ ghost use Prim.Native.Nat.{_≤_};
 ghost use lib.ListN.{getD};
 ghost use lib.Ieee.{nan};
 ghost use lib.Ieee.Exact.{HasValue};
+ghost use Rattle.meaning.specs.Table.{mostRows};
 ghost use Rattle.meaning.specs.Rows.{opOf};
 ghost use Rattle.meaning.specs.Turning.{overPath};
 ghost use Rattle.meaning.specs.Meaning.{float, numberOf, truthOf, applied};
@@ -102,7 +103,7 @@ pub fn apply(
     n: usize,
     context: Context,
 ) -> Value
-    requires { ⌜ n ≤ 4096 ⌝ }
+    requires { ⌜ n ≤ mostRows ⌝ }
     ensures { λ r. ⌜ r ≡ applied (now (literals .entry)) (opOf op) index u v n context ⌝ }
 {
     let x = number_of(u);

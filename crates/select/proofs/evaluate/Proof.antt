@@ -1,17 +1,10 @@
 -- `select::evaluate` meets its contract: each answer is that of the first check that applies, and an answer of a check leaves the output as
 -- it was.
 -- Assumes nothing.
-use mathlib.Core.Path.{_≡_}
 use Rattle.meaning.proofs.Outcome.{table-refused, path-refused}
 use borrow.Author.Needs.{needs}
 use Rattle.select.proofs.evaluate.Statement.{statement}
 use Rattle.select.proofs.evaluate.Tie as tie
-use Rattle.select.proofs.evaluate.Reads as reads
-use Rattle.select.proofs.evaluate.Lts as lts
-use Rattle.basics.proofs.wide.Reads as wide-reads
-use Rattle.path.proofs.check.check_path.Reads as check-path-reads
-use Rattle.select.proofs.evaluate_accepted.Reads as evaluate-accepted-reads
-use Rattle.table.proofs.check.check_table.Reads as check-table-reads
 
 check-table-requires : tie.Need-check-table-requires
 check-table-requires c κs = search needs

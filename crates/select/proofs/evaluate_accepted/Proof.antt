@@ -7,14 +7,6 @@ use Rattle.meaning.proofs.Outcome.{table-fits, path-fits, start-refused, room-r
 use borrow.Author.Needs.{needs}
 use Rattle.select.proofs.evaluate_accepted.Statement.{statement}
 use Rattle.select.proofs.evaluate_accepted.Tie as tie
-use Rattle.select.proofs.evaluate_accepted.Reads as reads
-use Rattle.select.proofs.evaluate_accepted.Lts as lts
-use Rattle.basics.proofs.given.Reads as given-reads
-use Rattle.path.proofs.row_count.Reads as row-count-reads
-use Rattle.select.proofs.cycle.select.Reads as select-reads
-use Rattle.select.proofs.marks.count_marks.Reads as count-marks-reads
-use Rattle.select.proofs.marks.list_marks.Reads as list-marks-reads
-use Rattle.table.proofs.row_count.Reads as row-count-reads′
 
 row-count-requires : tie.Need-row-count-requires
 row-count-requires c κs = search needs

@@ -1,11 +1,11 @@
 -- `select::candidates::list_candidates` meets its contract. The loop's invariant: the first m of the list are the candidates among the first
 -- i rows of the axis's order. The measure is what is left of the rows.
 -- Assumes nothing.
-use Prim.Native.Nat.{_+_, _-_, _<_, _≤_}
-use mathlib.Core.Path.{_≡_, refl, sym, ap, _∙_}
+use Prim.Native.Nat.{_-_, _≤_}
+use mathlib.Core.Path.{_≡_, refl, ap, _∙_}
 use native.Mathlib.Omega.{arith}
 use borrow.Author.Needs.{needs}
-use lib.ListN.{length, getD, length-set}
+use lib.ListN.{length, length-set}
 use mathlib.Core.Bool.{_&&_}
 use mathlib.Core.Logic.{⊎-elim}
 use Rattle.meaning.specs.Table.{rows}

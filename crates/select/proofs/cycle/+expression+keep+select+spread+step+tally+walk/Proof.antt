@@ -1,3 +1,6 @@
+-- The cycle of the evaluator meets its contracts: each member's answers stand in a file of its own below, the measure and what the
+-- members may call in `Shared`.
+-- Assumes nothing.
 mod Shared
 mod Expression
 mod Keep

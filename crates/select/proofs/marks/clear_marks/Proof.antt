@@ -1,8 +1,8 @@
 -- `select::marks::clear_marks` meets its contract. The loop's invariant: the first i marks are false. The measure is what is left of
 -- the length.
 -- Assumes nothing.
-use Prim.Native.Nat.{_+_, _-_, _<_, _≤_}
-use mathlib.Core.Path.{_≡_, refl, sym, ap, _∙_}
+use Prim.Native.Nat.{_-_, _≤_}
+use mathlib.Core.Path.{_≡_, refl}
 use native.Mathlib.Omega.{arith}
 use borrow.Author.Needs.{needs}
 use lib.ListN.{length, length-set}

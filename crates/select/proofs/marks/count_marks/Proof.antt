@@ -1,11 +1,9 @@
 -- `select::marks::count_marks` meets its contract. The loop's invariant: m is how many are marked below i. The measure is what is left
 -- of the rows.
 -- Assumes nothing.
-use Prim.Native.Nat.{_+_, _-_, _<_, _≤_}
-use mathlib.Core.Path.{_≡_, refl, sym, ap, _∙_}
+use Prim.Native.Nat.{_-_, _≤_}
 use native.Mathlib.Omega.{arith}
 use borrow.Author.Needs.{needs}
-use lib.ListN.{length}
 use mathlib.Core.Logic.{⊎-elim}
 use Rattle.meaning.proofs.Marks.{Counted, counted-start, counted-more, counted-skip, counted-done}
 use Rattle.select.proofs.marks.count_marks.Statement.{statement}

@@ -1,14 +1,14 @@
 -- `select::marks::list_marks` meets its contract. The loop's invariant: the first m of the list are what is marked below y, the rest is as
 -- it was. A marked row finds room, since all of them have it. The measure is what is left of the rows.
 -- Assumes nothing.
-use Prim.Native.Nat.{_+_, _-_, _<_, _≤_}
-use mathlib.Core.Path.{_≡_, refl, sym, ap, _∙_}
+use Prim.Native.Nat.{_-_, _≤_}
+use mathlib.Core.Path.{_≡_, refl, ap, _∙_}
 use native.Mathlib.Omega.{arith}
 use borrow.Author.Needs.{needs}
 use lib.ListN.{length, length-set}
 use mathlib.Core.Logic.{⊎-elim}
 use Rattle.meaning.specs.Table.{rows}
-use Rattle.meaning.proofs.Marks.{listed, Counted, counted-start, counted-more, counted-skip, counted-room, Listing, listing-start, listing-more, listing-skip, listing-done}
+use Rattle.meaning.proofs.Marks.{Counted, counted-start, counted-more, counted-skip, counted-room, Listing, listing-start, listing-more, listing-skip, listing-done}
 use Rattle.select.proofs.marks.list_marks.Statement.{statement}
 use Rattle.select.proofs.marks.list_marks.Tie as tie
 

@@ -1,15 +1,14 @@
 -- `select::marks::start_marks` meets its contract. The loop's invariant: each of the first i marks says whether it is the start's. The
 -- measure is what is left of the length.
 -- Assumes nothing.
-use Prim.Native.Nat.{_+_, _-_, _<_, _≤_}
-use mathlib.Core.Path.{_≡_, refl, sym, ap, _∙_}
+use Prim.Native.Nat.{_-_, _≤_}
+use mathlib.Core.Path.{_≡_, refl, _∙_}
 use native.Mathlib.Omega.{arith}
 use borrow.Author.Needs.{needs}
 use lib.ListN.{length, length-set}
 use mathlib.Core.Logic.{⊎-elim}
 use lib.Dec.{eqb}
 use borrow.Author.Tests.{eq-eqb, ne-eqb}
-use Rattle.meaning.specs.Rows.{opOf}
 use Rattle.meaning.specs.Meaning.{startOf, isAbsolute}
 use Rattle.meaning.proofs.Trees.{op-is}
 use Rattle.meaning.proofs.Marks.{Wrote, wrote-start, wrote-more, wrote-listed}

@@ -6,16 +6,6 @@ use Rattle.meaning.proofs.Evaluation.{no-expression}
 use borrow.Author.Needs.{needs}
 use Rattle.select.proofs.values.apply.Statement.{statement}
 use Rattle.select.proofs.values.apply.Tie as tie
-use Rattle.select.proofs.values.apply.Reads as reads
-use Rattle.select.proofs.values.apply.Lts as lts
-use Rattle.basics.proofs.below.Reads as below-reads
-use Rattle.basics.proofs.both.Reads as both-reads
-use Rattle.basics.proofs.either.Reads as either-reads
-use Rattle.select.proofs.values.float_of.Reads as float-of-reads
-use Rattle.select.proofs.values.literal_at.Reads as literal-at-reads
-use Rattle.select.proofs.values.nonzero.Reads as nonzero-reads
-use Rattle.select.proofs.values.number_of.Reads as number-of-reads
-use Rattle.select.proofs.values.truth_of.Reads as truth-of-reads
 
 number-of-requires : tie.Need-number-of-requires
 number-of-requires c κs = search needs

@@ -4,10 +4,6 @@ use Rattle.meaning.proofs.Evaluation.{over-path-ops}
 use borrow.Author.Needs.{needs}
 use Rattle.select.proofs.values.is_over_path.Statement.{statement}
 use Rattle.select.proofs.values.is_over_path.Tie as tie
-use Rattle.select.proofs.values.is_over_path.Reads as reads
-use Rattle.select.proofs.values.is_over_path.Lts as lts
-use Rattle.basics.proofs.either.Reads as either-reads
-use Rattle.basics.proofs.same.Reads as same-reads
 
 same-requires : tie.Need-same-requires
 same-requires c κs = search needs

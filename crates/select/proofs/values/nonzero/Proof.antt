@@ -7,9 +7,6 @@ use Rattle.meaning.proofs.Numbers.{nonzero-by}
 use borrow.Author.Needs.{needs}
 use Rattle.select.proofs.values.nonzero.Statement.{statement}
 use Rattle.select.proofs.values.nonzero.Tie as tie
-use Rattle.select.proofs.values.nonzero.Reads as reads
-use Rattle.select.proofs.values.nonzero.Lts as lts
-use Rattle.basics.proofs.both.Reads as both-reads
 
 both-requires : tie.Need-both-requires
 both-requires c κs = search needs

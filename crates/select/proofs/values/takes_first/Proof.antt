@@ -4,10 +4,6 @@ use Rattle.meaning.proofs.Evaluation.{takes-first-ops}
 use borrow.Author.Needs.{needs}
 use Rattle.select.proofs.values.takes_first.Statement.{statement}
 use Rattle.select.proofs.values.takes_first.Tie as tie
-use Rattle.select.proofs.values.takes_first.Reads as reads
-use Rattle.select.proofs.values.takes_first.Lts as lts
-use Rattle.basics.proofs.at_most.Reads as at-most-reads
-use Rattle.basics.proofs.both.Reads as both-reads
 
 at-most-requires : tie.Need-at-most-requires
 at-most-requires c κs = search needs

@@ -4,11 +4,6 @@ use Rattle.meaning.proofs.Evaluation.{takes-second-ops}
 use borrow.Author.Needs.{needs}
 use Rattle.select.proofs.values.takes_second.Statement.{statement}
 use Rattle.select.proofs.values.takes_second.Tie as tie
-use Rattle.select.proofs.values.takes_second.Reads as reads
-use Rattle.select.proofs.values.takes_second.Lts as lts
-use Rattle.basics.proofs.at_most.Reads as at-most-reads
-use Rattle.basics.proofs.both.Reads as both-reads
-use Rattle.basics.proofs.same.Reads as same-reads
 
 at-most-requires : tie.Need-at-most-requires
 at-most-requires c κs = search needs

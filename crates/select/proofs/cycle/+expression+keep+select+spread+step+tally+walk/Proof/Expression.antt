@@ -1,6 +1,6 @@
-use Prim.Native.Nat.{ℕ, _+_, _-_, _*_, _<_, _≤_}
-use mathlib.Core.Path.{_≡_, refl, sym, ap, _∙_}
-use native.Mathlib.Omega.{arith}
+-- `expression`: one answer for each way that an op takes its operands, all by the law that a value depends only on what its op takes.
+-- Assumes nothing.
+use Prim.Native.Nat.{ℕ, _-_}
 use borrow.Author.Needs.{needs}
 use Rattle.meaning.proofs.Evaluation.{value-none, value-over-path, value-leaf, value-one, value-two}
 use Rattle.select.proofs.cycle.expression.Reads as reads
@@ -70,4 +70,3 @@ module _ (t : ℕ) where
 
   pub returns-5 : lts.Need-returns-5 (calls t) (given t) reads.Post
   returns-5 c = search value-leaf
-

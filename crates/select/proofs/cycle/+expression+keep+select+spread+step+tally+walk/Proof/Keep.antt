@@ -1,10 +1,14 @@
-use Prim.Native.Nat.{ℕ, _+_, _-_, _*_, _<_, _≤_}
-use mathlib.Core.Path.{_≡_, refl, sym, ap, _∙_}
+-- `keep`: the predicates before this one have filtered the list; the loop's invariant is that the first m nodes are what this one keeps of
+-- the first i, and what follows is still to come. The loop's measure is what is left of the list.
+-- Assumes nothing.
+use Prim.Native.Nat.{ℕ, _-_, _<_, _≤_}
+use mathlib.Core.Path.{_≡_, ap, _∙_}
 use native.Mathlib.Omega.{arith}
 use borrow.Author.Needs.{needs}
 use mathlib.Core.Logic.{⊎-elim}
 use lib.ListN.{length, length-set}
 use lib.Seq.{length-take-le}
+use Rattle.meaning.specs.Table.{mostRows}
 use Rattle.meaning.proofs.Filters.{Kept, kept-start, kept-skip, kept-more, kept-done}
 use Rattle.meaning.proofs.Evaluation.{keptBy, kept-by, filtered-none, filtered-row}
 use Rattle.select.proofs.cycle.keep.Reads as reads
@@ -13,7 +17,7 @@ use Rattle.select.proofs.cycle.+expression+keep+select+spread+step+tall
 
 abbrev pub Inv-loop : lts.InvT-loop
 Inv-loop table path literals link list₀ n row k test size m₀ i₀ list m i =
-    (m ≤ i) × (i ≤ k) × (length list ≡ 4096) × Kept (keptBy table literals path test k) k list₀ list m i
+    (m ≤ i) × (i ≤ k) × (length list ≡ mostRows) × Kept (keptBy table literals path test k) k list₀ list m i
 
 abbrev pub μ-loop : lts.MeasureT-loop
 μ-loop table path literals link list₀ n row k test size m₀ i₀ list m i = k - i
@@ -117,4 +121,3 @@ module _ (t : ℕ) where
             (kept-done _ _ _ _ _ _ (lo .loop .inv .3) (omega arith)),
         omega arith,
       )
-

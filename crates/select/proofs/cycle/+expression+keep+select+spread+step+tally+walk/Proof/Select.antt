@@ -1,6 +1,6 @@
-use Prim.Native.Nat.{ℕ, _+_, _-_, _*_, _<_, _≤_}
-use mathlib.Core.Path.{_≡_, refl, sym, ap, _∙_}
-use native.Mathlib.Omega.{arith}
+-- `select`: a path walks its steps from its start; link 0 selects nothing.
+-- Assumes nothing.
+use Prim.Native.Nat.{ℕ, _-_}
 use borrow.Author.Needs.{needs}
 use Rattle.meaning.proofs.Evaluation.{select-none, select-row}
 use Rattle.select.proofs.cycle.select.Reads as reads
@@ -43,4 +43,3 @@ module _ (t : ℕ) where
 
   pub returns-2 : lts.Need-returns-2 (calls t) (given t) reads.Post
   returns-2 c = search select-row
-

@@ -1,3 +1,6 @@
+-- The cycle's measure, and what each of its members is given and may call. The measure is the link, three times, plus one for a
+-- member that calls another at its own link, plus two for a step, which calls such a one.
+-- Assumes nothing.
 use Prim.Native.Nat.{ℕ, _+_, _*_, _<_}
 use borrow.Fn.Kinds.{In}
 use borrow.Fn.PlainCycle.{Measures, is, falls, and}
@@ -208,4 +211,3 @@ walk-calls t = (
   copy-marks-reads.Asked,
   copy-marks-reads.Learnt,
 )
-

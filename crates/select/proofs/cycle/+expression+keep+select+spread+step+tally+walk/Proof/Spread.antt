@@ -1,6 +1,6 @@
-use Prim.Native.Nat.{ℕ, _+_, _-_, _*_, _<_, _≤_}
-use mathlib.Core.Path.{_≡_, refl, sym, ap, _∙_}
-use native.Mathlib.Omega.{arith}
+-- `spread`: the candidates are listed, filtered and marked, each by its function's contract.
+-- Assumes nothing.
+use Prim.Native.Nat.{ℕ, _-_}
 use borrow.Author.Needs.{needs}
 use Rattle.select.proofs.cycle.spread.Reads as reads
 use Rattle.select.proofs.cycle.+expression+keep+select+spread+step+tally+walk.Lts-spread as lts
@@ -24,4 +24,3 @@ module _ (t : ℕ) where
 
   pub returns : lts.Need-returns (calls t) (given t) reads.Post
   returns c = rw (← c .before .before .before .before .before .before .before .before .before .before .before .list-candidates .ensures .0, ← c .before .before .before .before .before .before .before .keep .ensures .0) (c .before .before .add-marks .ensures)
-

@@ -1,11 +1,14 @@
-use Prim.Native.Nat.{ℕ, _+_, _-_, _*_, _<_, _≤_}
-use mathlib.Core.Path.{_≡_, refl, sym, ap, _∙_}
+-- `step`: the loop's invariant is that next has what the marked nodes below x reach, and lengths are as they were. The loop's measure is
+-- what is left of the rows.
+-- Assumes nothing.
+use Prim.Native.Nat.{ℕ, _+_, _-_, _≤_}
+use mathlib.Core.Path.{_≡_, ap, _∙_}
 use native.Mathlib.Omega.{arith}
 use borrow.Author.Needs.{needs}
 use mathlib.Core.Logic.{⊎-elim}
 use native.Mathlib.Numerals.{add-one-le}
 use lib.ListN.{length}
-use Rattle.meaning.specs.Table.{rows}
+use Rattle.meaning.specs.Table.{rows, mostRows}
 use Rattle.meaning.proofs.Marks.{Reached, reached-start, reached-skip, reached-more, reached-done}
 use Rattle.meaning.proofs.Evaluation.{stepTo}
 use Rattle.select.proofs.cycle.step.Reads as reads
@@ -14,7 +17,7 @@ use Rattle.select.proofs.cycle.+expression+keep+select+spread+step+tall
 
 abbrev pub Inv-loop : lts.InvT-loop
 Inv-loop table path literals link axis test marks next₀ list₀ n x₀ next list x =
-    (x ≤ n) × (n ≤ 4096) × (n ≡ rows table) × (length marks ≡ 4096) × (length next ≡ 4096) × (length list ≡ 4096) × Reached (stepTo table literals path link axis test) marks x next
+    (x ≤ n) × (n ≤ mostRows) × (n ≡ rows table) × (length marks ≡ mostRows) × (length next ≡ mostRows) × (length list ≡ mostRows) × Reached (stepTo table literals path link axis test) marks x next
 
 abbrev pub μ-loop : lts.MeasureT-loop
 μ-loop table path literals link axis test marks next₀ list₀ n x₀ next list x = n - x
@@ -87,4 +90,3 @@ module _ (t : ℕ) where
   returns c =
       let lo = c .before in
       reached-done _ _ _ _ _ (lo .loop .inv .6) (omega (arith, lo .loop .inv, c .loop-test .left)) (omega (arith, lo .loop .inv))
-

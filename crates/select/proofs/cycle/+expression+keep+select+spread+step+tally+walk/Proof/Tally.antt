@@ -1,6 +1,6 @@
-use Prim.Native.Nat.{ℕ, _+_, _-_, _*_, _<_, _≤_}
-use mathlib.Core.Path.{_≡_, refl, sym, ap, _∙_}
-use native.Mathlib.Omega.{arith}
+-- `tally`: the marks that `select` leaves are counted.
+-- Assumes nothing.
+use Prim.Native.Nat.{ℕ, _-_}
 use borrow.Author.Needs.{needs}
 use Rattle.select.proofs.cycle.tally.Reads as reads
 use Rattle.select.proofs.cycle.+expression+keep+select+spread+step+tally+walk.Lts-tally as lts
@@ -21,4 +21,3 @@ module _ (t : ℕ) where
 
   pub returns : lts.Need-returns (calls t) (given t) reads.Post
   returns c = (cc, search needs)
-

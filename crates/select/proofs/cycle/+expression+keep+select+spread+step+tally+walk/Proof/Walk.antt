@@ -1,5 +1,6 @@
-use Prim.Native.Nat.{ℕ, _+_, _-_, _*_, _<_, _≤_}
-use mathlib.Core.Path.{_≡_, refl, sym, ap, _∙_}
+-- `walk`: what the steps before reached is the set from which this step goes on.
+-- Assumes nothing.
+use Prim.Native.Nat.{ℕ, _-_}
 use native.Mathlib.Omega.{arith}
 use borrow.Author.Needs.{needs}
 use Rattle.meaning.proofs.Evaluation.{walk-none, walk-row}
@@ -58,4 +59,3 @@ module _ (t : ℕ) where
       let la = wa .before .before .before .before in
       rw (c .before .before .copy-marks .ensures)
       (walk-row _ _ _ _ (la .before .if1 .left) _ _ _ _ _ _ _ (la .first-link .ensures .0) (sl .second-link .ensures .0) (ia .index-or-axis .ensures .0) (te .test-at .ensures .0) (wa .walk .ensures) (st .step .ensures))
-
