@@ -3,18 +3,16 @@
 -- Assumes nothing.
 use Prim.Native.Nat.{ℕ, zero, suc, _+_, _-_, _*_, _<_, _≤_, zero-le, suc-le-suc}
 use mathlib.Core.Path.{_≡_, refl, sym, ap, _∙_}
-use mathlib.Core.Logic.{_⊎_, inl, inr}
-use mathlib.Core.Bool.{Bool, true, false, cond}
+use mathlib.Core.Logic.{inl, inr}
+use mathlib.Core.Bool.{cond}
 use mathlib.Core.List.{List, [], _∷_, _++_}
 use lib.Dec.{eqb}
 use lib.ListN.{length, drop, set, List·getD-eq-default}
 use lib.Seq.{sets, sets-eq}
 use native.Mathlib.Omega.{arith}
-use native.Mathlib.Numerals.{add-one}
 use borrow.Author.Tests.{eq-eqb, ne-eqb}
-use Rattle.meaning.specs.Rows.{Op, code, opOf, opAt, field, isLiteral, firstLink, secondLink}
-use Rattle.meaning.specs.Rows as R
-use Rattle.meaning.specs.Tree.{Tree, none, node, tree, indexOrAxis, testAt}
+use Rattle.meaning.specs.Rows.{code, opOf, opAt, field, isLiteral, firstLink, secondLink}
+use Rattle.meaning.specs.Tree.{tree, indexOrAxis, testAt}
 use Rattle.meaning.specs.Turning.{inverses, inverseOf, predicates, test, weight, link, row, written}
 use Rattle.meaning.proofs.Bools.{eq-or-ne}
 use Rattle.meaning.proofs.Trees.{past-axes, op-past, code-of, tree-zero, tree-row}

@@ -1,23 +1,15 @@
 // Which predicates count (document 01, "Turning round"): those that are numbers, or hold op 2 or 3 not inside a path of their own.
 use crate::field_at;
+use crate::fields::is_number;
 use crate::first_link;
 use crate::second_link;
-use basics::at_most;
-use basics::both;
 use basics::either;
 use basics::same;
 ghost use mathlib.Core.Path.{_≡_};
 ghost use Prim.Native.Nat.{_≤_};
-ghost use Rattle.meaning.specs.Rows.{opOf, isNumber};
+ghost use Rattle.meaning.specs.Rows.{opOf};
 ghost use Rattle.meaning.specs.Tree.{tree};
 ghost use Rattle.meaning.specs.Turning as turning;
-
-// Ops 1 to 9 and 21 are numbers.
-fn is_number(op: usize) -> bool
-    ensures { λ r. ⌜ r ≡ isNumber (opOf op) ⌝ }
-{
-    either(both(at_most(1, op), at_most(op, 9)), same(op, 21))
-}
 
 // Ops 2 and 3: position() and last().
 fn is_contextual(op: usize) -> bool

@@ -1,6 +1,4 @@
 // Reads of a path's rows, each equal to its definition (document 01, "The path form").
-pub mod counting;
-
 use basics::at_most;
 use basics::both;
 use basics::either;
@@ -93,4 +91,5 @@ pub fn test_at(path: &[u32], row: usize) -> usize
 }
 
 pub mod check;
+pub mod counting;
 pub mod fields;

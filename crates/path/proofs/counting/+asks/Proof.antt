@@ -1,3 +1,5 @@
+-- `path::counting::asks` meets its contract: by what was read of the row and what the links' trees ask; the measure is the link, which falls.
+-- Assumes nothing.
 use borrow.Author.Needs.{needs}
 use Rattle.meaning.proofs.Counting.{asks-none, asks-itself, asks-no-path, asks-links}
 use Prim.Native.Nat.{ℕ, _<_}
@@ -79,7 +81,7 @@ asks-either-requires : (t : ℕ) → asks-lts.Need-either-requires (calls t) (as
 asks-either-requires t c κs = search needs
 
 asks-returns-4 : (t : ℕ) → asks-lts.Need-returns-4 (calls t) (asks-at t) asks.Post
-asks-returns-4 t c = 
+asks-returns-4 t c =
     let ask = c .before .before .before .before .before in
     asks-links _ _ (ask .before .before .before .before .before .if1 .left) _ (ask .before .before .before .before .field-at .ensures .0) _ _ (ask .before .before .before .is-contextual .ensures) (ask .before .before .if2 .left) (ask .before .is-over-path .ensures) (ask .if3 .left) _ _ (c .before .before .before .before .first-link .ensures .0) (c .before .before .second-link .ensures .0) _ _ _ (c .before .before .before .asks .ensures) (c .before .asks2 .ensures) (c .either .ensures)
 

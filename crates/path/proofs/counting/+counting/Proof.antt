@@ -1,3 +1,5 @@
+-- `path::counting::counting` meets its contract: by what the chain before it and the predicate's own expression give; the measure is the link, which falls.
+-- Assumes nothing.
 use borrow.Author.Needs.{needs}
 use Rattle.meaning.proofs.Counting.{counting-none, counting-row}
 use Prim.Native.Nat.{ℕ, _<_}
@@ -68,7 +70,7 @@ counting-either-requires-2 : (t : ℕ) → counting-lts.Need-either-requires-2 (
 counting-either-requires-2 t c κs = search needs
 
 counting-returns-2 : (t : ℕ) → counting-lts.Need-returns-2 (calls t) (counting-at t) counting.Post
-counting-returns-2 t c = 
+counting-returns-2 t c =
     counting-row _ _ (c .before .before .before .before .before .before .before .if1 .left) _ _ (c .before .before .before .before .before .before .first-link .ensures .0) (c .before .before .before .before .second-link .ensures .0) _ _ _ _ _ (c .before .before .before .before .before .counting .ensures) (c .before .before .before .is-numeric .ensures) (c .before .before .asks .ensures) (c .before .either .ensures) (c .either2 .ensures)
 
 pub +counting-spec : {M : Type 1} → statement M
