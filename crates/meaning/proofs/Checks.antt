@@ -204,20 +204,6 @@ table-refused t f = go (lengthAllowed t) (some (broken t) (upTo (rows t))) f
     go true false g = absurd (g refl)
     go false b g = refl
 
--- of a path whose answer is 0 no check applies
-pub path-accepted : (p : List ℕ) (literals : List Float) → pathAnswer p literals .number ≡ 0
-    → (pathLengthAllowed p ≡ true)
-    × (some (badLiteralAt literals) (upTo (length literals)) ≡ false)
-    × (some (brokenRow p (length literals)) (upTo (rowsOf p)) ≡ false)
-    × (depth (pathTree p) ≤ mostDepth)
-unfolding pathAnswer pathChecks
-path-accepted p literals e =
-    let a = clear (not (pathLengthAllowed p)) 3 0 _ (omega arith) e in
-    let b = clear (some (badLiteralAt literals) (upTo (length literals))) 4 (lowest (badLiteralAt literals) (length literals)) _ (omega arith) (a .1) in
-    let d = clear (some (brokenRow p (length literals)) (upTo (rowsOf p))) 5 (lowest (brokenRow p (length literals)) (rowsOf p)) _ (omega arith) (b .1) in
-    let f = clear (ltb mostDepth (depth (pathTree p))) 6 0 _ (omega arith) (d .1) in
-    (not-false _ (a .0), b .0, d .0, ltb-false mostDepth (depth (pathTree p)) (f .0))
-
 -- the table's answer, check by check
 module _ (t : List ℕ) where
   pub table-length : lengthAllowed t ≡ false → answer 1 0 ≡ tableAnswer t

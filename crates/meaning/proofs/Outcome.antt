@@ -17,7 +17,8 @@ use Rattle.meaning.specs.Meaning.{select}
 use Rattle.meaning.specs.Answers.{answer, check, tableAnswer, pathAnswer, selected, evaluation, output, evaluated}
 use Rattle.meaning.specs.declared.Answer.{Answer}
 use Rattle.meaning.proofs.Bools.{and-l, and-r, truly}
-use Rattle.meaning.proofs.Checks.{table-passes, table-stops, table-accepted, path-passes, path-stops, path-accepted, most-rows}
+use Rattle.meaning.proofs.Checks.{table-passes, table-stops, table-accepted, path-passes, path-stops, most-rows}
+use Rattle.meaning.proofs.Paths.{path-accepted}
 
 -- a table whose answer is 0 has at most 4,096 rows, a path whose answer is 0 at most 256
 pub table-fits : (t : List ℕ) → tableAnswer t .number ≡ 0 → rows t ≤ mostRows
@@ -26,7 +27,7 @@ table-fits t e = leb→le (rows t) mostRows (and-r (eqb (length t % 4) 0 && leb 
     (and-l (lengthAllowed t) (not (some (broken t) (upTo (rows t)))) (truly (table-accepted t e))))
 
 pub path-fits : (p : List ℕ) (literals : List Float) → pathAnswer p literals .number ≡ 0 → rowsOf p ≤ mostPathRows
-path-fits p literals e = most-rows p (path-accepted p literals e .0)
+path-fits p literals e = most-rows p (path-accepted p literals e .0 .allowed)
 
 module _ (t p : List ℕ) (literals : List Float) (start : ℕ) (out : List ℕ) where
   -- an answer and an output, as evaluation has them

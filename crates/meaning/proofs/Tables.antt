@@ -45,11 +45,6 @@ good-child t i g =
       largest = nearest-largest t i (parentOf t i) n;
     }
 
--- a table is accepted if its length is allowed and no row is broken
-pub accept : (t : List ℕ) → lengthAllowed t ≡ true → some (broken t) (upTo (rows t)) ≡ false → accepted t ≡ true
-unfolding accepted
-accept t h k = rw (h, k)
-
 module _ (t : List ℕ) (acc : accepted t ≡ true) where
   pub allowed : T (lengthAllowed t)
   unfolding accepted
@@ -66,13 +61,6 @@ module _ (t : List ℕ) (acc : accepted t ≡ true) where
       let l : T (lengthAllowed t) = allowed in
       let f : T (leb 1 (rows t)) = search (and-l, and-r) in
       omega (arith, leb→le)
-
-  pub few-rows : rows t ≤ mostRows
-  unfolding lengthAllowed
-  few-rows =
-      let l : T (lengthAllowed t) = allowed in
-      let f : T (leb (rows t) mostRows) = search (and-l, and-r) in
-      leb→le (rows t) mostRows f
 
   pub root-end : end t 0 ≡ rows t - 1
   unfolding broken goodRoot

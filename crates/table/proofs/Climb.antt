@@ -13,26 +13,26 @@ use borrow.Author.Tests.{ne-eqb, lt-ltb, le-leb, lt-leb}
 use Rattle.meaning.specs.Lists.{upTo, some, lowest}
 use Rattle.meaning.specs.Table.{rows, mostRows, lengthAllowed, size, parentOf, end, goodRoot, goodRow, nearest, broken}
 use Rattle.meaning.proofs.Bools.{and-l, and-r, not-false, truly, same, eq→eqb, lt-or-ge}
-use Rattle.meaning.proofs.Lists.{none-below, lowest-is}
-use borrow.Author.Count.{below-more}
+use Rattle.meaning.proofs.Lists.{none-below}
 use Rattle.meaning.proofs.Tables.{Child, good-child, nearest-largest}
-use Rattle.table.specs.Sound.{Sound, Reached}
+use Rattle.meaning.proofs.Checks.{Passed, passed-start, passed-more, passed-found}
+use Rattle.table.specs.Sound.{Reached}
 
 -- no row between j and i reaches i
-unfoldable pub Passed : List ℕ → ℕ → ℕ → Type 0
-Passed t i j = (k : ℕ) → j < k → k < i → end t k < i
+unfoldable pub Climbed : List ℕ → ℕ → ℕ → Type 0
+Climbed t i j = (k : ℕ) → j < k → k < i → end t k < i
 
 module _ (t : List ℕ) (i : ℕ) (h : Reached t i) where
   -- the root reaches every row
   pub root-reaches : i ≤ end t 0
-  unfolding Sound broken goodRoot
+  unfolding Passed broken goodRoot
   root-reaches =
       let g : T (goodRoot t) = not-false (goodRoot t) (h .below 0 (h .inner)) in
       let f : T (eqb (size t 0) (rows t - 1)) = search (and-l, and-r) in
       omega (arith, eqb→eq (size t 0) (rows t - 1) f, h .row)
 
   pub sound-child : (j : ℕ) → 0 < j → j < i → Child t j
-  unfolding Sound broken
+  unfolding Passed broken
   sound-child j p l =
       let w : not (cond (eqb j 0) (goodRoot t) (goodRow t j)) ≡ false = h .below j l in
       good-child t j (not-false (goodRow t j) (rw (ne-eqb j 0 (λ e. omega arith)) at w))
@@ -45,13 +45,13 @@ module _ (t : List ℕ) (i : ℕ) (h : Reached t i) where
   pub climb-falls : (j : ℕ) → j < i → end t j < i → parentOf t j < j
   climb-falls j l k = sound-child j (climber j k) l .below
 
-  pub climb-start : Passed t i (i - 1)
-  unfolding Passed
+  pub climb-start : Climbed t i (i - 1)
+  unfolding Climbed
   climb-start k a b = absurd (omega arith)
 
   -- one step up: whoever lies between a row and its parent ends before the row
-  pub climb-step : (j : ℕ) → j < i → end t j < i → Passed t i j → Passed t i (parentOf t j)
-  unfolding Passed
+  pub climb-step : (j : ℕ) → j < i → end t j < i → Climbed t i j → Climbed t i (parentOf t j)
+  unfolding Climbed
   climb-step j l k f m a b = elim (lt-or-ge j m) [
     | inl q ↦ f m q b
     | inr q ↦ elim (eq-or-lt-of-le q) [
@@ -64,8 +64,8 @@ module _ (t : List ℕ) (i : ℕ) (h : Reached t i) where
   ]
 
   -- at the top of the climb stands the largest row that reaches i
-  pub climb-done : (j : ℕ) → j < i → i ≤ end t j → Passed t i j → nearest t i j ≡ true
-  unfolding nearest Passed
+  pub climb-done : (j : ℕ) → j < i → i ≤ end t j → Climbed t i j → nearest t i j ≡ true
+  unfolding nearest Climbed
   climb-done j l k f =
       let none : some (λ m. ltb j m && leb i (end t m)) (upTo i) ≡ false =
       none-below (λ m. ltb j m && leb i (end t m)) i (λ m b. elim (lt-or-ge j m) [
@@ -100,28 +100,20 @@ row-broken : (t : List ℕ) (i : ℕ) → 0 < i → broken t i ≡ not (goodRow 
 unfolding broken
 row-broken t i p = rw (ne-eqb i 0 (λ e. omega arith))
 
-pub sound-root : (t : List ℕ) → goodRoot t ≡ true → Sound t 1
-unfolding Sound broken
-sound-root t h k l = let e : k ≡ 0 = omega arith in rw (e, h)
-
-pub sound-more : (t : List ℕ) (i : ℕ) → 0 < i → Sound t i → goodRow t i ≡ true → Sound t (i + 1)
-unfolding Sound
-sound-more t i p s h = below-more _ _ s (rw (row-broken t i p, h))
-
--- the root is the lowest broken row
-pub lowest-root : (t : List ℕ) → goodRoot t ≡ false → 0 ≡ lowest (broken t) (rows t)
+pub sound-root : (t : List ℕ) → goodRoot t ≡ true → Passed (broken t) 1
 unfolding broken
-lowest-root t h = sym (lowest-is (broken t) (rows t) 0 (omega arith) (λ j l. absurd (omega arith)) (λ l. rw h))
+sound-root t h = passed-more (broken t) 0 (passed-start (broken t)) (rw h)
 
--- the first row behind sound ones that is not good is the lowest broken row
-pub lowest-here : (t : List ℕ) (i : ℕ) → 0 < i → i < rows t → Sound t i → goodRow t i ≡ false → i ≡ lowest (broken t) (rows t)
-unfolding Sound
-lowest-here t i p l s h = sym (lowest-is (broken t) (rows t) i (omega arith) s (λ m. rw (row-broken t i p, h)))
+pub sound-more : (t : List ℕ) (i : ℕ) → 0 < i → Passed (broken t) i → goodRow t i ≡ true → Passed (broken t) (i + 1)
+sound-more t i p s h = passed-more (broken t) i s (rw (row-broken t i p, h))
 
--- where all rows are sound there is none
-pub lowest-none : (t : List ℕ) (n : ℕ) → n ≡ rows t → Sound t n → n ≡ lowest (broken t) (rows t)
-unfolding Sound
-lowest-none t n e s = sym (lowest-is (broken t) (rows t) n (omega arith) s (λ m. absurd (omega arith)))
+-- the root is the lowest broken row, or the first row behind sound ones that is not good, or there is none
+pub lowest-root : (t : List ℕ) → 0 < rows t → goodRoot t ≡ false → 0 ≡ lowest (broken t) (rows t)
+unfolding broken
+lowest-root t l h = passed-found (broken t) (rows t) 0 (passed-start (broken t)) l (rw h)
+
+pub lowest-here : (t : List ℕ) (i : ℕ) → 0 < i → i < rows t → Passed (broken t) i → goodRow t i ≡ false → i ≡ lowest (broken t) (rows t)
+lowest-here t i p l s h = passed-found (broken t) (rows t) i s l (rw (row-broken t i p, h))
 
 -- a length that is allowed has some rows, and few
 pub allowed-rows : (t : List ℕ) → lengthAllowed t ≡ true → (0 < rows t) × (rows t ≤ mostRows)

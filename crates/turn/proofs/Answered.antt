@@ -20,8 +20,8 @@ use Rattle.meaning.specs.declared.Answer.{Answer}
 use Rattle.meaning.proofs.Bools.{or-none-l, or-none-r}
 use Rattle.meaning.proofs.Lists.{below-none}
 use Rattle.meaning.proofs.Trees.{first-le, op-is, tree-zero, tree-row}
-use Rattle.meaning.proofs.Checks.{path-passes, path-stops, path-accepted}
-use Rattle.meaning.proofs.Paths.{AcceptedPath, some-path-row, few-path-rows, top-is-path, all-rows}
+use Rattle.meaning.proofs.Checks.{path-passes, path-stops}
+use Rattle.meaning.proofs.Paths.{AcceptedPath, path-accepted, some-path-row, few-path-rows, top-is-path, all-rows}
 use Rattle.meaning.proofs.ReadBack.{length-written, link-zero}
 use Rattle.meaning.proofs.Demand.{relative-is}
 use Rattle.meaning.proofs.Written.{sets-behind, sets-front}
@@ -101,9 +101,7 @@ module _ (p : List ℕ) (literals : List Float) (checked : Answer) (is-checked :
     zero-answer = ap (λ (a : Answer). a .number) (sym is-checked) ∙ passed
 
     accepted : AcceptedPath p (length literals)
-    accepted =
-        let a = path-accepted p literals zero-answer in
-        record { allowed = a .0; whole = below-none (brokenRow p (length literals)) (rowsOf p) (a .2); shallow = a .3 }
+    accepted = path-accepted p literals zero-answer .0
 
     pub rows-there : (0 < rowsOf p) × (rowsOf p ≤ 256)
     rows-there = (some-path-row p (length literals) accepted, few-path-rows p (length literals) accepted)

@@ -5,14 +5,14 @@ use borrow.Author.Tests.{not-true, not-false}
 use native.Mathlib.Omega.{arith}
 use mathlib.Core.Path.{_≡_, _∙_, sym}
 use Prim.Native.Nat.{_<_, _≤_, _-_}
-use Rattle.meaning.specs.Table.{rows}
-use Rattle.table.specs.Sound.{Sound}
-use Rattle.table.proofs.Climb.{sound-root, sound-more, lowest-root, lowest-here, lowest-none}
+use Rattle.meaning.specs.Table.{rows, broken}
+use Rattle.meaning.proofs.Checks.{Passed, passed-all}
+use Rattle.table.proofs.Climb.{sound-root, sound-more, lowest-root, lowest-here}
 use Rattle.table.proofs.check.lowest_broken_row.Statement.{statement}
 use Rattle.table.proofs.check.lowest_broken_row.Tie as tie
 
 abbrev Inv-loop : tie.InvT-loop
-Inv-loop table n i₀ i = (0 < i) × (i ≤ n) × (n ≡ rows table) × Sound table i
+Inv-loop table n i₀ i = (0 < i) × (i ≤ n) × (n ≡ rows table) × Passed (broken table) i
 
 abbrev μ-loop : tie.MeasureT-loop
 μ-loop table n i₀ i = n - i
@@ -21,7 +21,7 @@ good-root-requires : tie.Need-good-root-requires Inv-loop μ-loop
 good-root-requires c κs = search needs
 
 returns : tie.Need-returns Inv-loop μ-loop
-returns c = lowest-root _ (sym (c .before .good-root .ensures) ∙ not-true _ (c .if1 .taken))
+returns c = lowest-root _ (c .before .before .before .pre .0) (sym (c .before .good-root .ensures) ∙ not-true _ (c .if1 .taken))
 
 row-count-requires : tie.Need-row-count-requires Inv-loop μ-loop
 row-count-requires c κs = search needs
@@ -45,7 +45,7 @@ loop-again : tie.Need-loop-again Inv-loop μ-loop
 loop-again c = (omega arith, omega arith, c .before .before .before .loop .inv .2, sound-more _ _ (c .before .before .before .loop .inv .0) (c .before .before .before .loop .inv .3) (sym (c .before .good-row .ensures) ∙ not-false _ (c .if2 .left)))
 
 returns-3 : tie.Need-returns-3 Inv-loop μ-loop
-returns-3 c = let e : c .before .loop .i ≡ c .before .before .row-count .result = omega arith in lowest-none _ _ (c .before .loop .inv .2) (rw e at (c .before .loop .inv .3))
+returns-3 c = let e : c .before .loop .i ≡ c .before .before .row-count .result = omega arith in rw (← e) (passed-all (broken _) _ _ (c .before .loop .inv .3) (e ∙ c .before .loop .inv .2))
 
 pub lowest-broken-row-spec : {M : Type 1} → statement M
 lowest-broken-row-spec =

@@ -4,12 +4,12 @@ use Prim.Native.Nat.{_≤_}
 use Rattle.meaning.specs.Table.{end}
 use native.Mathlib.Omega.{arith}
 use Prim.Native.Nat.{_<_}
-use Rattle.table.proofs.Climb.{Passed, climb-start, climb-falls, climb-step, climb-done}
+use Rattle.table.proofs.Climb.{Climbed, climb-start, climb-falls, climb-step, climb-done}
 use Rattle.table.proofs.check.nearest_below.Statement.{statement}
 use Rattle.table.proofs.check.nearest_below.Tie as tie
 
 abbrev Inv-loop : tie.InvT-loop
-Inv-loop table i j₀ j = (j < i) × Passed table i j
+Inv-loop table i j₀ j = (j < i) × Climbed table i j
 
 abbrev μ-loop : tie.MeasureT-loop
 μ-loop table i j₀ j = j
