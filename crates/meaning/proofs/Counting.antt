@@ -13,6 +13,7 @@ use Rattle.meaning.proofs.Trees.{op-is, tree-zero, tree-row}
 
 -- ---- ops
 
+-- ops 2 and 3, and ops 20 and 21, by their numbers
 pub contextual-ops : (n : ℕ) → contextual (opOf n) ≡ (eqb n 2 || eqb n 3)
 unfolding contextual
 contextual-ops n = rw (op-is 2 n (omega arith) (omega arith), op-is 3 n (omega arith) (omega arith))
@@ -43,10 +44,12 @@ module _ (p : List ℕ) (l : ℕ) where
   -- ---- a row: its op, and its links a and b
 
   module _ (h : (l ≡ 0) → ⊥) where
+    -- a row is a number by its op
     pub numeric-row : (op : ℕ) → op ≡ field p (l - 1) 0 → (r : Bool) → r ≡ isNumber (opOf op) → r ≡ numeric (tree p l)
     unfolding numeric
     numeric-row op e r k = rw (tree-row p l h, ← e) k
 
+    -- a row asks itself, hides what its path asks, or asks what its links ask
     pub asks-itself : (op : ℕ) → op ≡ field p (l - 1) 0 → (k : Bool) → k ≡ contextual (opOf op) → k ≡ true → true ≡ asks (tree p l)
     unfolding asks
     asks-itself op e k f t = rw (tree-row p l h, ← e, ← f, t)
@@ -61,6 +64,7 @@ module _ (p : List ℕ) (l : ℕ) where
     asks-links op e k o f t g n a b i j u v r x y z = rw (tree-row p l h, ← e, ← f, t, ← g, n, ← i, ← j, ← x, ← y) z
 
     module _ (a b : ℕ) (is-a : a ≡ firstLink p (l - 1)) (is-b : b ≡ secondLink p (l - 1)) where
+      -- one predicate more, and one step more
       pub counting-row : (u v w x r : Bool) → u ≡ counting (tree p a) → v ≡ numeric (tree p b) → w ≡ asks (tree p b) → x ≡ (v || w) → r ≡ (u || x) → r ≡ counting (tree p l)
       unfolding counting
       counting-row u v w x r f g k m n = rw (tree-row p l h, ← is-a, ← is-b, ← f, ← g, ← k, ← m) n

@@ -60,11 +60,13 @@ inverse-rest (suc n) n1 n2 n3 n4 n5 n6 n7 n8 n9 n10 = sym (List·getD-eq-default
 pub code-known : (n : ℕ) → n ≤ 25 → n ≡ code (opOf n)
 code-known n h = sym (code-of n h)
 
+-- a number above 25 is no op's
 pub code-past : (n : ℕ) → 25 < n → 0 ≡ code (opOf n)
 unfolding code
 code-past n h = rw (op-past n h)
 
 module _ (p : List ℕ) (r n k a b c d : ℕ) (is-op : n ≡ field p r 0) (is-known : k ≡ code (opOf n)) (is-c : c ≡ indexOrAxis p r) (is-d : d ≡ testAt p r) where
+  -- the five numbers of a literal's row, and of any other
   pub literal-row : k ≡ 1 → (k ∷ c ∷ b ∷ 0 ∷ d ∷ []) ≡ row (opAt p r) a b (indexOrAxis p r) (testAt p r)
   unfolding row isLiteral
   literal-row e = rw (← is-op, ← is-known, ← is-c, ← is-d, eq-eqb k 1 e)
@@ -84,10 +86,12 @@ link-from p l n m e = elim (eq-or-ne l 0) [
 ]
 
 module _ (p : List ℕ) (l : ℕ) where
+  -- a row's tree has the rows of its links' trees and one more
   pub weight-row : (l ≡ 0 → ⊥) → (a b : ℕ) → a ≡ firstLink p (l - 1) → b ≡ secondLink p (l - 1) → weight (tree p l) ≡ weight (tree p a) + weight (tree p b) + 1
   unfolding weight
   weight-row h a b is-a is-b = rw (tree-row p l h, ← is-a, ← is-b)
 
+  -- no link stands for no rows
   pub write-none : (out : List ℕ) (at : ℕ) → l ≡ 0 → (at ≡ at + weight (tree p l)) × (out ≡ sets out (5 * at) (written at (tree p l)))
   unfolding weight written
   write-none out at e = rw (e, tree-zero p) (omega arith, refl)

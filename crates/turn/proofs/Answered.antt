@@ -34,6 +34,7 @@ module _ (p : List ℕ) (n last : ℕ) (is-n : n ≡ rowsOf p) (is-last : last �
   chain-link : last ≡ firstLink p (rowsOf p - 1)
   chain-link = rw (← is-n) is-last
 
+  -- a relative path has no second link
   nothing-second : secondLink p (rowsOf p - 1) ≡ 0
   unfolding secondLink fieldsOf isLink
   nothing-second = rw (k .relative)
@@ -46,6 +47,7 @@ module _ (p : List ℕ) (n last : ℕ) (is-n : n ≡ rowsOf p) (is-last : last �
   unfolding weight
   chain-weight = omega (arith, ap weight top, k .whole)
 
+  -- there is room for the chain
   pub chain-fits : (last ≤ 256) × Room out (weight (tree p last) + 1)
   chain-fits = (
     omega (arith, first-le p (rowsOf p - 1), chain-link, k .room .few),
@@ -81,6 +83,7 @@ module _ (p : List ℕ) (literals : List Float) (out : List ℕ) where
   unfolding turnedOutput output
   kept a e f = (e, rw (← e, ne-eqb (a .number) 0 f))
 
+  -- the same of an answer by its number and place
   pub refused : (a : Answer) (k place : ℕ) → a ≡ answer k place → answer k place ≡ turning p literals (length out) → 0 < k
       → (a ≡ turning p literals (length out)) × (out ≡ turnedOutput p literals out)
   refused a k place e f h = kept a (e ∙ f) (λ z. omega (arith, ap (λ (a : Answer). a .number) e))
@@ -92,6 +95,7 @@ module _ (p : List ℕ) (literals : List Float) (out : List ℕ) where
   turned-round a place z e f g = (e ∙ f, rw (← f) g)
 
 module _ (p : List ℕ) (literals : List Float) (checked : Answer) (is-checked : checked ≡ pathAnswer p literals) where
+  -- a path that is refused
   pub stopped : (room : ℕ) → (checked .number ≡ 0 → ⊥) → checked ≡ turning p literals room
   unfolding turning
   stopped room f = is-checked ∙ sym (path-stops p literals (λ z. f (ap (λ (a : Answer). a .number) is-checked ∙ z)) _)
@@ -103,6 +107,7 @@ module _ (p : List ℕ) (literals : List Float) (checked : Answer) (is-checked :
     accepted : AcceptedPath p (length literals)
     accepted = path-accepted p literals zero-answer .0
 
+    -- an accepted path has 1 to 256 rows
     pub rows-there : (0 < rowsOf p) × (rowsOf p ≤ 256)
     rows-there = (some-path-row p (length literals) accepted, few-path-rows p (length literals) accepted)
 
@@ -121,16 +126,19 @@ module _ (p : List ℕ) (literals : List Float) (checked : Answer) (is-checked :
       unfolding absolutePath isAbsolute
       absolute-is = rw (tree-row p (rowsOf p) (λ z. omega (arith, rows-there .0)), ← top-op) (op-is 23 op (omega arith) (omega arith))
 
+      -- 9
       pub step-counts : 0 < first → answer 9 first ≡ turning p literals room
       unfolding turning
       step-counts h = rw (path-passes p literals zero-answer, counting-is, lt-ltb 0 first h)
 
       module _ (uncounted : first ≤ 0) where
+        -- 10
         pub is-absolute : op ≡ 23 → answer 10 0 ≡ turning p literals room
         unfolding turning
         is-absolute e = rw (path-passes p literals zero-answer, counting-is, le-ltb 0 first uncounted, absolute-is, eq-eqb op 23 e)
 
         module _ (not-absolute : op ≡ 23 → ⊥) (many short full : Bool) (is-many : many ≡ ltb mostPathRows (n + 1)) (is-short : short ≡ ltb room (5 * (n + 1))) (is-full : full ≡ (many || short)) where
+          -- 11, and 0
           pub no-room : full ≡ true → answer 11 (n + 1) ≡ turning p literals room
           unfolding turning
           no-room k =

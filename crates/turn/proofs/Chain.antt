@@ -45,6 +45,7 @@ unfolding weight predicates
 few-predicates none = omega arith
 few-predicates (node op a b c d) = omega arith
 
+-- the turned chain has one row more
 pub weight-chain : (s : Tree) → weight (chain s) ≡ weight s + 1
 unfolding chain weight
 weight-chain s = omega (arith, weight-back s (further none s 0))
@@ -100,6 +101,7 @@ module _ (p : List ℕ) (last : ℕ) (start : List ℕ) (first : ℕ) where
       }
 
   module _ (out : List ℕ) (at from : ℕ) (i : Behind out at from) where
+    -- the output keeps its length
     pub behind-length : length out ≡ length start
     behind-length = ap length (i .stored) ∙ length-sets start (5 * first) (i .rest)
 
