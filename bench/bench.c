@@ -1,0 +1,303 @@
+/* bench.c: times three engines on the same documents and queries.
+ *
+ *   bench [CAP [SHAPE]]   CAP: seconds that one run may take (default 10);
+ *                         SHAPE: that shape of document alone
+ *
+ * Writes Markdown: for each shape of document a row for each query, with our
+ * times at four sizes, the two others' at the largest, how each grows from
+ * the smallest to the largest size, and ours over the faster of the two.
+ * Each cell runs in a process of its own, which the cap can end.
+ */
+#include "documents.h"
+#include "engines.h"
+
+#include <stdbool.h>
+#include <stdio.h>
+#include <stdlib.h>
+#include <string.h>
+#include <sys/resource.h>
+#include <sys/wait.h>
+#include <time.h>
+#include <unistd.h>
+
+enum { SIZES = 4, ENGINES = 3, MAX_ROWS = 4096, SAMPLES = 31 };
+
+static const uint32_t sizes[SIZES] = {512, 1024, 2048, 4096};
+static const struct engine *const engines[ENGINES] = {&ours, &pugixml, &libxml2};
+
+/* A and B stand for two names of elements that the document has; long ones have a label */
+static const struct query { const char *text, *label; } queries[] = {
+    {"//A//B", NULL},
+    {"//limit[not(floor)]", NULL},
+    {"//*/following::*/preceding::*", NULL},
+    {"//*[count(child::*) > 2]", NULL},
+    {"//*[position() mod 2 = 0]", NULL},
+    {"//A/ancestor::*[3]", NULL},
+    {"//*[*[*[*]]]", NULL},
+    {"//*[*[*[*[*]]]]", NULL},
+    {"//*[*[*[*[*[*]]]]]", NULL},
+    {"//*[*[*[*[*[*[*]]]]]]", NULL},
+    {"//*[descendant::*[descendant::*[descendant::*]]]", "some descendant, nested 3 deep"},
+    {"//*[descendant::*[descendant::*[descendant::*[descendant::*]]]]", "some descendant, nested 4 deep"},
+    {"//*[descendant::*[descendant::*[descendant::*[descendant::*[descendant::*]]]]]",
+     "some descendant, nested 5 deep"},
+    {"//*[descendant::*[descendant::*[descendant::*[descendant::*[descendant::*[descendant::*]]]]]]",
+     "some descendant, nested 6 deep"},
+    {"//*[descendant::*[descendant::*[none]]]", NULL},
+    {"//*[count(*[count(*) > 1]) > 1]", NULL},
+    {"//*/child::*/parent::*", NULL},
+    {"//*/child::*/parent::*/child::*/parent::*/child::*/parent::*/child::*/parent::*",
+     "`//*`, then `child::*/parent::*`, 8 steps"},
+    {"//*/child::*/parent::*/child::*/parent::*/child::*/parent::*/child::*/parent::*/child::*/parent::*"
+     "/child::*/parent::*/child::*/parent::*/child::*/parent::*/child::*/parent::*/child::*/parent::*",
+     "`//*`, then `child::*/parent::*`, 20 steps"},
+    {"/descendant::*/ancestor::*/descendant::*/ancestor::*/descendant::*/ancestor::*/descendant::*/ancestor::*",
+     "`/descendant::*/ancestor::*`, 8 steps"},
+};
+
+enum { QUERIES = sizeof queries / sizeof *queries };
+
+/* what a cell's process hands back; done is false if a run was above the cap */
+struct cell { bool done; double seconds; size_t selected; uint64_t mark; };
+
+static double cap = 10;
+
+/* ---- one cell ---- */
+
+static double thread_time(void)
+{
+    struct timespec now;
+    clock_gettime(CLOCK_THREAD_CPUTIME_ID, &now);
+    return (double)now.tv_sec + (double)now.tv_nsec / 1e9;
+}
+
+static double time_runs(const struct engine *engine, void *state, long runs)
+{
+    double begin = thread_time();
+    for (long i = 0; i < runs; i++)
+        engine->run(state);
+    return (thread_time() - begin) / (double)runs;
+}
+
+static int ascending(const void *left, const void *right)
+{
+    double a = *(const double *)left, b = *(const double *)right;
+    return (a > b) - (a < b);
+}
+
+/* the median of samples of half a millisecond or one run each; fewer when runs are long */
+static double median_time(const struct engine *engine, void *state)
+{
+    double samples[SAMPLES], begin = thread_time();
+    double first = time_runs(engine, state, 1);
+    long runs = first > 0.0005 ? 1 : 1 + (long)(0.0005 / (first > 1e-8 ? first : 1e-8));
+    int count = 0;
+    if (first > 1)
+        return first;
+    while (count < SAMPLES && (count < 3 || thread_time() - begin < 0.3))
+        samples[count++] = time_runs(engine, state, runs);
+    qsort(samples, (size_t)count, sizeof *samples, ascending);
+    return count % 2 ? samples[count / 2] : (samples[count / 2 - 1] + samples[count / 2]) / 2;
+}
+
+/* one number for a list of nodes, to compare the engines' answers by */
+static uint64_t mark_of(const uint32_t *nodes, size_t count)
+{
+    uint64_t mark = 14695981039346656037u;
+    for (size_t i = 0; i < count; i++)
+        mark = (mark ^ nodes[i]) * 1099511628211u;
+    return mark;
+}
+
+/* ends this process when it has used so many seconds of CPU time */
+static void limit_time(double seconds)
+{
+    struct rlimit limit = {(rlim_t)seconds, RLIM_INFINITY};
+    setrlimit(RLIMIT_CPU, &limit);
+}
+
+/* times an engine, then lists the nodes; the cap stands for the first part alone */
+static struct cell measure(const struct engine *engine, const struct question *question)
+{
+    static uint32_t nodes[MAX_ROWS];
+    struct cell cell = {true, 0, 0, 0};
+    void *state = engine->open(question);
+    limit_time(cap + 5);
+    cell.seconds = median_time(engine, state);
+    limit_time(3 * cap + 10);
+    cell.done = cell.seconds <= cap;
+    cell.selected = engine->nodes(state, nodes);
+    cell.mark = mark_of(nodes, cell.selected);
+    return cell;
+}
+
+/* the process of a cell ends here */
+static void run_child(int to, const struct engine *engine, const struct question *question)
+{
+    struct rlimit no_core = {0, 0};
+    setrlimit(RLIMIT_CORE, &no_core);
+    struct cell cell = measure(engine, question);
+    _exit(write(to, &cell, sizeof cell) == (ssize_t)sizeof cell ? 0 : 3);
+}
+
+static struct cell run_cell(const struct engine *engine, const struct question *question)
+{
+    struct cell cell = {false, 0, 0, 0};
+    int ends[2], status;
+    if (pipe(ends) != 0)
+        exit(2);
+    fflush(stdout);
+    pid_t child = fork();
+    if (child < 0)
+        exit(2);
+    if (child == 0)
+        run_child(ends[1], engine, question);
+    close(ends[1]);
+    if (read(ends[0], &cell, sizeof cell) != (ssize_t)sizeof cell)
+        cell.done = false;
+    close(ends[0]);
+    waitpid(child, &status, 0);
+    if (WIFEXITED(status) && WEXITSTATUS(status) != 0)
+        exit(WEXITSTATUS(status));
+    return cell;
+}
+
+/* ---- the tables ---- */
+
+static void print_time(const struct cell *cell)
+{
+    if (!cell->done)
+        printf(" > %.0f s |", cap);
+    else if (cell->seconds >= 1)
+        printf(" %.2f s |", cell->seconds);
+    else if (cell->seconds >= 0.01)
+        printf(" %.1f ms |", cell->seconds * 1e3);
+    else
+        printf(" %.3f ms |", cell->seconds * 1e3);
+}
+
+static void print_growth(const struct cell *cells)
+{
+    if (cells[0].done && cells[SIZES - 1].done)
+        printf(" %.1f |", cells[SIZES - 1].seconds / cells[0].seconds);
+    else
+        printf(" |");
+}
+
+/* ours over the faster of the two others, at the largest size */
+static void print_ratio(struct cell cells[ENGINES][SIZES])
+{
+    double best = 0;
+    for (int e = 1; e < ENGINES; e++) {
+        const struct cell *cell = &cells[e][SIZES - 1];
+        if (cell->done && (best == 0 || cell->seconds < best))
+            best = cell->seconds;
+    }
+    const struct cell *mine = &cells[0][SIZES - 1];
+    if (mine->done && best > 0)
+        printf(" %.2f |\n", mine->seconds / best);
+    else if (mine->done)
+        printf(" < %.4f |\n", mine->seconds / cap);
+    else
+        printf(best > 0 ? " > %.0f |\n" : " |\n", best > 0 ? cap / best : 0);
+}
+
+static void print_row(const char *title, bool quoted, struct cell cells[ENGINES][SIZES])
+{
+    size_t selected = 0;
+    for (int e = 0; e < ENGINES; e++)
+        if (cells[e][SIZES - 1].done)
+            selected = cells[e][SIZES - 1].selected;
+    printf(quoted ? "| `%s` | %lu |" : "| %s | %lu |", title, (unsigned long)selected);
+    for (int s = 0; s < SIZES; s++)
+        print_time(&cells[0][s]);
+    print_growth(cells[0]);
+    for (int e = 1; e < ENGINES; e++) {
+        print_time(&cells[e][SIZES - 1]);
+        print_growth(cells[e]);
+    }
+    print_ratio(cells);
+}
+
+/* whether all engines that ended selected the same nodes */
+static bool same_answers(const char *query, struct cell cells[ENGINES][SIZES])
+{
+    for (int s = 0; s < SIZES; s++) {
+        const struct cell *known = NULL;
+        for (int e = 0; e < ENGINES; e++) {
+            const struct cell *cell = &cells[e][s];
+            if (!cell->done)
+                continue;
+            if (known && (known->selected != cell->selected || known->mark != cell->mark)) {
+                printf("\nANSWERS DIFFER: %s on %u rows, %s\n", query, sizes[s], engines[e]->name);
+                return false;
+            }
+            known = cell;
+        }
+    }
+    return true;
+}
+
+/* ---- shapes and queries ---- */
+
+/* the query with A and B replaced by names that stand in the shape */
+static void spell(const char *query, enum shape shape, char *to)
+{
+    for (; *query; query++) {
+        const char *word = *query == 'A' ? (shape == PARAMETERS ? "group" : "a")
+                         : *query == 'B' ? (shape == PARAMETERS ? "floor" : "b") : NULL;
+        if (word)
+            to = stpcpy(to, word);
+        else
+            *to++ = *query;
+    }
+    *to = 0;
+}
+
+static bool run_query(enum shape shape, const struct query *asked)
+{
+    static uint32_t table[4 * MAX_ROWS];
+    struct cell cells[ENGINES][SIZES];
+    char query[512];
+    spell(asked->text, shape, query);
+    memset(cells, 0, sizeof cells);
+    for (int s = 0; s < SIZES; s++) {
+        build_table(shape, sizes[s], table);
+        char *xml = xml_of_table(table, sizes[s]);
+        struct question question = {table, sizes[s], xml, query};
+        for (int e = 0; e < ENGINES; e++)
+            if (s == 0 || cells[e][s - 1].done)
+                cells[e][s] = run_cell(engines[e], &question);
+        free(xml);
+    }
+    print_row(asked->label ? asked->label : query, asked->label == NULL, cells);
+    return same_answers(query, cells);
+}
+
+static bool run_shape(enum shape shape)
+{
+    bool same = true;
+    printf("\n### %s\n\n", shape_names[shape]);
+    printf("| path | selected | ours 512 | ours 1,024 | ours 2,048 | ours 4,096 | growth "
+           "| pugixml 4,096 | growth | libxml2 4,096 | growth | ours / faster |\n");
+    printf("|---|--:|--:|--:|--:|--:|--:|--:|--:|--:|--:|--:|\n");
+    for (int q = 0; q < QUERIES; q++)
+        same = run_query(shape, &queries[q]) && same;
+    return same;
+}
+
+int main(int argc, char **argv)
+{
+    bool same = true;
+    if (argc > 1)
+        cap = strtod(argv[1], NULL);
+    printf("Thread CPU time, medians; pugixml %s, libxml2 %s; cap %.0f s a run. Growth is the time on 4,096 rows\n"
+           "over the time on 512. Ours: one bt_evaluate, all checks included. The others: one evaluation of a\n"
+           "query that was compiled before, on a document that was parsed before.\n",
+           pugixml_version(), libxml2_version(), cap);
+    for (int shape = 0; shape < SHAPES; shape++)
+        if (argc < 3 || strcmp(argv[2], shape_names[shape]) == 0)
+            same = run_shape((enum shape)shape) && same;
+    puts(same ? "\nWhere more than one engine ended, all selected the same nodes." : "\nSome answers differ.");
+    return !same;
+}

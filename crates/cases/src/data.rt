@@ -1,0 +1,661 @@
+// The tables, paths and lists of the cases, as rows of numbers (document 01). A name in a path is a number: `child::4`.
+
+// The reference tree.
+pub const REFERENCE: [u32; 40] = [
+    0,
+    0,
+    0,
+    9,
+    1,
+    1,
+    0,
+    8,
+    1,
+    2,
+    1,
+    3,
+    1,
+    3,
+    2,
+    0,
+    1,
+    3,
+    2,
+    0,
+    1,
+    4,
+    2,
+    0,
+    1,
+    2,
+    1,
+    3,
+    1,
+    3,
+    6,
+    0,
+    1,
+    4,
+    6,
+    0,
+    1,
+    4,
+    6,
+    0,
+];
+
+// The single row.
+pub const SINGLE: [u32; 4] = [0, 0, 0, 0];
+
+// An element 7 with a text, a comment and a processing instruction 7.
+pub const MIXED: [u32; 20] = [0, 0, 0, 4, 1, 7, 0, 3, 2, 0, 1, 0, 3, 0, 1, 0, 4, 7, 1, 0];
+
+// /
+pub const ROOT: [u32; 5] = [23, 0, 0, 0, 0];
+
+// preceding::node(), following::node()
+pub const PRECEDING: [u32; 10] = [24, 0, 0, 8, 0, 22, 1, 0, 0, 0];
+
+pub const FOLLOWING: [u32; 10] = [24, 0, 0, 7, 0, 22, 1, 0, 0, 0];
+
+// parent::*, parent::node()
+pub const PARENT_ELEMENT: [u32; 10] = [24, 0, 0, 2, 1, 22, 1, 0, 0, 0];
+
+pub const PARENT_NODE: [u32; 10] = [24, 0, 0, 2, 0, 22, 1, 0, 0, 0];
+
+// ancestor::node()[x], preceding::node()[x], /descendant::4[x], x being literal 0
+pub const ANCESTOR_AT: [u32; 20] = [
+    1,
+    0,
+    0,
+    0,
+    0,
+    25,
+    0,
+    1,
+    0,
+    0,
+    24,
+    0,
+    2,
+    4,
+    0,
+    22,
+    3,
+    0,
+    0,
+    0,
+];
+
+pub const PRECEDING_AT: [u32; 20] = [
+    1,
+    0,
+    0,
+    0,
+    0,
+    25,
+    0,
+    1,
+    0,
+    0,
+    24,
+    0,
+    2,
+    8,
+    0,
+    22,
+    3,
+    0,
+    0,
+    0,
+];
+
+pub const DESCENDANT_AT: [u32; 20] = [
+    1,
+    0,
+    0,
+    0,
+    0,
+    25,
+    0,
+    1,
+    0,
+    0,
+    24,
+    0,
+    2,
+    3,
+    20,
+    23,
+    3,
+    0,
+    0,
+    0,
+];
+
+// /descendant::*/descendant::*[position() > last()*0.5]
+pub const SECOND_HALF: [u32; 45] = [
+    24,
+    0,
+    0,
+    3,
+    1,
+    2,
+    0,
+    0,
+    0,
+    0,
+    3,
+    0,
+    0,
+    0,
+    0,
+    1,
+    0,
+    0,
+    0,
+    0,
+    6,
+    3,
+    4,
+    0,
+    0,
+    14,
+    2,
+    5,
+    0,
+    0,
+    25,
+    0,
+    6,
+    0,
+    0,
+    24,
+    1,
+    7,
+    3,
+    1,
+    23,
+    8,
+    0,
+    0,
+    0,
+];
+
+// /descendant-or-self::node()/child::4[1]
+pub const CHILD_OF_ANY: [u32; 25] = [
+    24,
+    0,
+    0,
+    5,
+    0,
+    1,
+    0,
+    0,
+    0,
+    0,
+    25,
+    0,
+    2,
+    0,
+    0,
+    24,
+    1,
+    3,
+    1,
+    20,
+    23,
+    4,
+    0,
+    0,
+    0,
+];
+
+// child::*[1][2]
+pub const FIRST_SECOND: [u32; 30] = [
+    1,
+    0,
+    0,
+    0,
+    0,
+    25,
+    0,
+    1,
+    0,
+    0,
+    1,
+    1,
+    0,
+    0,
+    0,
+    25,
+    2,
+    3,
+    0,
+    0,
+    24,
+    0,
+    4,
+    1,
+    1,
+    22,
+    5,
+    0,
+    0,
+    0,
+];
+
+// child::*[position() > 1][1], child::*[position() > 1][last()]
+pub const LATER_FIRST: [u32; 40] = [
+    2,
+    0,
+    0,
+    0,
+    0,
+    1,
+    0,
+    0,
+    0,
+    0,
+    14,
+    1,
+    2,
+    0,
+    0,
+    25,
+    0,
+    3,
+    0,
+    0,
+    1,
+    0,
+    0,
+    0,
+    0,
+    25,
+    4,
+    5,
+    0,
+    0,
+    24,
+    0,
+    6,
+    1,
+    1,
+    22,
+    7,
+    0,
+    0,
+    0,
+];
+
+pub const LATER_LAST: [u32; 40] = [
+    2,
+    0,
+    0,
+    0,
+    0,
+    1,
+    0,
+    0,
+    0,
+    0,
+    14,
+    1,
+    2,
+    0,
+    0,
+    25,
+    0,
+    3,
+    0,
+    0,
+    3,
+    0,
+    0,
+    0,
+    0,
+    25,
+    4,
+    5,
+    0,
+    0,
+    24,
+    0,
+    6,
+    1,
+    1,
+    22,
+    7,
+    0,
+    0,
+    0,
+];
+
+// child::*[count(child::4) = 2]
+pub const TWO_FOURS: [u32; 40] = [
+    24,
+    0,
+    0,
+    1,
+    20,
+    22,
+    1,
+    0,
+    0,
+    0,
+    21,
+    2,
+    0,
+    0,
+    0,
+    1,
+    0,
+    0,
+    0,
+    0,
+    10,
+    3,
+    4,
+    0,
+    0,
+    25,
+    0,
+    5,
+    0,
+    0,
+    24,
+    0,
+    6,
+    1,
+    1,
+    22,
+    7,
+    0,
+    0,
+    0,
+];
+
+// child::*[0 div 0 != 0 div 0]
+pub const NAN_DIFFERS: [u32; 50] = [
+    1,
+    0,
+    0,
+    0,
+    0,
+    1,
+    0,
+    0,
+    0,
+    0,
+    7,
+    1,
+    2,
+    0,
+    0,
+    1,
+    0,
+    0,
+    0,
+    0,
+    1,
+    0,
+    0,
+    0,
+    0,
+    7,
+    4,
+    5,
+    0,
+    0,
+    11,
+    3,
+    6,
+    0,
+    0,
+    25,
+    0,
+    7,
+    0,
+    0,
+    24,
+    0,
+    8,
+    1,
+    1,
+    22,
+    9,
+    0,
+    0,
+    0,
+];
+
+// child::2/child::4, and what it is turned to
+pub const TWO_STEPS: [u32; 15] = [24, 0, 0, 1, 18, 24, 1, 0, 1, 20, 22, 2, 0, 0, 0];
+
+pub const TWO_STEPS_TURNED: [u32; 20] = [
+    24,
+    0,
+    0,
+    0,
+    20,
+    24,
+    1,
+    0,
+    2,
+    18,
+    24,
+    2,
+    0,
+    2,
+    0,
+    22,
+    3,
+    0,
+    0,
+    0,
+];
+
+// child::*[x], x being literal 0; child::*/child::*[position() = 1]; /child::*[1]; child::*[child::4]
+pub const CHILD_AT: [u32; 20] = [
+    1,
+    0,
+    0,
+    0,
+    0,
+    25,
+    0,
+    1,
+    0,
+    0,
+    24,
+    0,
+    2,
+    1,
+    1,
+    22,
+    3,
+    0,
+    0,
+    0,
+];
+
+pub const SECOND_COUNTS: [u32; 35] = [
+    24,
+    0,
+    0,
+    1,
+    1,
+    2,
+    0,
+    0,
+    0,
+    0,
+    1,
+    0,
+    0,
+    0,
+    0,
+    10,
+    2,
+    3,
+    0,
+    0,
+    25,
+    0,
+    4,
+    0,
+    0,
+    24,
+    1,
+    5,
+    1,
+    1,
+    22,
+    6,
+    0,
+    0,
+    0,
+];
+
+pub const ABSOLUTE_AT: [u32; 20] = [
+    1,
+    0,
+    0,
+    0,
+    0,
+    25,
+    0,
+    1,
+    0,
+    0,
+    24,
+    0,
+    2,
+    1,
+    1,
+    23,
+    3,
+    0,
+    0,
+    0,
+];
+
+pub const HAS_FOUR: [u32; 30] = [
+    24,
+    0,
+    0,
+    1,
+    20,
+    22,
+    1,
+    0,
+    0,
+    0,
+    20,
+    2,
+    0,
+    0,
+    0,
+    25,
+    0,
+    3,
+    0,
+    0,
+    24,
+    0,
+    4,
+    1,
+    1,
+    22,
+    5,
+    0,
+    0,
+    0,
+];
+
+// child::node(), child::*, child::text(), child::comment(), child::processing-instruction(), child::7
+pub const CHILD_NODE: [u32; 10] = [24, 0, 0, 1, 0, 22, 1, 0, 0, 0];
+
+pub const CHILD_ELEMENT: [u32; 10] = [24, 0, 0, 1, 1, 22, 1, 0, 0, 0];
+
+pub const CHILD_TEXT: [u32; 10] = [24, 0, 0, 1, 2, 22, 1, 0, 0, 0];
+
+pub const CHILD_COMMENT: [u32; 10] = [24, 0, 0, 1, 3, 22, 1, 0, 0, 0];
+
+pub const CHILD_INSTRUCTION: [u32; 10] = [24, 0, 0, 1, 4, 22, 1, 0, 0, 0];
+
+pub const CHILD_SEVEN: [u32; 10] = [24, 0, 0, 1, 23, 22, 1, 0, 0, 0];
+
+// Broken: op 26; axis 11; test 16; a step alone; a link that names no lower row; row 2 linked twice by row 3
+pub const UNKNOWN_OP: [u32; 5] = [26, 0, 0, 0, 0];
+
+pub const UNKNOWN_AXIS: [u32; 10] = [24, 0, 0, 11, 0, 22, 1, 0, 0, 0];
+
+pub const NAME_ZERO: [u32; 10] = [24, 0, 0, 1, 16, 22, 1, 0, 0, 0];
+
+pub const STEP_ALONE: [u32; 5] = [24, 0, 0, 1, 0];
+
+pub const LINK_TOO_HIGH: [u32; 10] = [24, 0, 0, 1, 0, 22, 5, 0, 0, 0];
+
+pub const LINKED_TWICE: [u32; 35] = [
+    24,
+    0,
+    0,
+    1,
+    0,
+    22,
+    1,
+    0,
+    0,
+    0,
+    20,
+    2,
+    0,
+    0,
+    0,
+    16,
+    3,
+    3,
+    0,
+    0,
+    25,
+    0,
+    4,
+    0,
+    0,
+    24,
+    0,
+    5,
+    1,
+    0,
+    22,
+    6,
+    0,
+    0,
+    0,
+];
+
+// Literals.
+pub const NONE: [f64; 0] = [];
+
+pub const ZERO: [f64; 1] = [0.0];
+
+pub const HALF: [f64; 1] = [0.5];
+
+pub const ONE: [f64; 1] = [1.0];
+
+pub const ONE_AND_HALF: [f64; 1] = [1.5];
+
+pub const TWO: [f64; 1] = [2.0];
+
+pub const THREE: [f64; 1] = [3.0];
+
+pub const ONE_TWO: [f64; 2] = [1.0, 2.0];
+
+// Lists of nodes: ascending, not ascending, and one with an entry that is no node.
+pub const LIST: [u32; 6] = [2, 3, 5, 7, 8, 9];
+
+pub const TWICE: [u32; 3] = [2, 3, 3];
+
+pub const TOO_LARGE: [u32; 3] = [2, 3, 10];

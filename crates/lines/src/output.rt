@@ -1,0 +1,29 @@
+// Output slices of the programs: filled with one number before a call, so that a change shows.
+ghost use Prim.Native.Nat.{_≤_};
+
+// What an output slice holds before the call.
+pub const UNTOUCHED: u32 = 4294967295;
+
+pub fn least(a: usize, b: usize) -> usize
+    ensures { λ r. ⌜ r ≤ b ⌝ }
+{
+    if a < b { a } else { b }
+}
+
+// The first n entries, or all where there are fewer.
+pub fn front(s: &[u32], n: usize) -> &[u32] {
+    let end = least(n, s.len());
+    &s[..end]
+}
+
+// Has an entry from an index on changed?
+pub fn is_changed(out: &[u32], from: usize) -> bool {
+    let mut i = from;
+    while i < out.len() {
+        if out[i] != UNTOUCHED {
+            return true;
+        }
+        i += 1;
+    }
+    false
+}

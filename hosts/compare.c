@@ -1,0 +1,292 @@
+/* compare.c: holds the archive to the independent reference on random inputs.
+ *
+ *   compare SEED COUNT [FIRST]   COUNT random inputs, all five functions each
+ *   compare stress               the largest inputs, on a stack of 1 MiB
+ *
+ * Both sides get the same output slice, filled with the same random words and
+ * with more such words around it; afterwards the whole must be equal, and on a
+ * refusal untouched. Inputs end at a page that cannot be read. The first
+ * difference is printed with its input and ends the program with status 1.
+ */
+#include "bargetulip.h"
+#include "inputs.h"
+#include "reference.h"
+#include "stress.h"
+
+#include <stdio.h>
+#include <stdlib.h>
+#include <string.h>
+#include <sys/mman.h>
+
+enum { MARGIN = 16, OUT_ROOM = 4200, PAGE = 4096, FENCED = 32 * PAGE };
+
+/* more work than this is left out: a few tens of milliseconds */
+static const uint64_t WORK_LIMIT = 6000000;
+
+enum function { CHECK_TABLE, CHECK_PATH, EVALUATE, TURN, VIEW, FUNCTIONS };
+
+static const char *const names[FUNCTIONS] = {
+    "bt_check_table", "bt_check_path", "bt_evaluate", "bt_turn", "bt_view"
+};
+
+/* how often each function gave each number; for the view: 0 empty, 1 a part */
+static uint64_t seen[FUNCTIONS][12];
+static uint64_t left_out;
+
+/* ---- inputs with a fence behind them ---- */
+
+struct fenced { const uint32_t *table, *path, *list; const double *literals; };
+
+/* memory whose last byte stands in front of a page that cannot be touched */
+static char *fenced_area(void)
+{
+    char *area = mmap(NULL, FENCED + PAGE, PROT_READ | PROT_WRITE, MAP_PRIVATE | MAP_ANONYMOUS, -1, 0);
+    if (area == MAP_FAILED || mprotect(area + FENCED, PAGE, PROT_NONE) != 0) {
+        puts("compare: no memory");
+        exit(2);
+    }
+    return area + FENCED;
+}
+
+static void *put(char *end, const void *from, size_t bytes)
+{
+    return memcpy(end - bytes, from, bytes);
+}
+
+static struct fenced fence(const struct input *in)
+{
+    static char *ends[4];
+    for (int i = 0; i < 4; i++)
+        if (!ends[i])
+            ends[i] = fenced_area();
+    struct fenced f = {
+        put(ends[0], in->table, 4 * in->table_len), put(ends[1], in->path, 4 * in->path_len),
+        put(ends[2], in->list, 4 * in->list_len), put(ends[3], in->literals, 8 * in->literals_len)
+    };
+    return f;
+}
+
+/* ---- one side's answer ---- */
+
+struct result {
+    uint32_t number, place[3]; /* the place with a sentinel on both sides */
+    size_t begin, length;
+    uint32_t out[MARGIN + OUT_ROOM + MARGIN];
+};
+
+static void fill(struct result *result, uint64_t seed)
+{
+    struct random random = {seed};
+    memset(result, 0, sizeof *result);
+    for (int i = 0; i < 3; i++)
+        result->place[i] = any(&random);
+    for (size_t i = 0; i < MARGIN + OUT_ROOM + MARGIN; i++)
+        result->out[i] = any(&random);
+}
+
+static void ask_reference(enum function f, const struct input *in, size_t room, struct result *r)
+{
+    uint32_t *out = r->out + MARGIN, *place = &r->place[1];
+    switch (f) {
+    case CHECK_TABLE: r->number = ref_check_table(in->table, in->table_len, place); break;
+    case CHECK_PATH:
+        r->number = ref_check_path(in->path, in->path_len, in->literals, in->literals_len, place);
+        break;
+    case EVALUATE:
+        r->number = ref_evaluate(in->table, in->table_len, in->path, in->path_len, in->literals,
+                                 in->literals_len, in->start, out, room, place, WORK_LIMIT);
+        break;
+    case TURN:
+        r->number = ref_turn(in->path, in->path_len, in->literals, in->literals_len, out, room, place);
+        break;
+    default:
+        ref_view(in->table, in->table_len, in->list, in->list_len, in->node, &r->begin, &r->length);
+        r->number = r->length > 0;
+    }
+}
+
+static void ask_archive(enum function f, const struct input *in, struct fenced p, size_t room, struct result *r)
+{
+    uint32_t *out = r->out + MARGIN, *place = &r->place[1];
+    switch (f) {
+    case CHECK_TABLE: r->number = bt_check_table(p.table, in->table_len, place); break;
+    case CHECK_PATH:
+        r->number = bt_check_path(p.path, in->path_len, p.literals, in->literals_len, place);
+        break;
+    case EVALUATE:
+        r->number = bt_evaluate(p.table, in->table_len, p.path, in->path_len, p.literals,
+                                in->literals_len, in->start, out, room, place);
+        break;
+    case TURN:
+        r->number = bt_turn(p.path, in->path_len, p.literals, in->literals_len, out, room, place);
+        break;
+    default:
+        r->begin = r->length = ~(size_t)0;
+        bt_view(p.table, in->table_len, p.list, in->list_len, in->node, &r->begin, &r->length);
+        r->number = r->length > 0;
+    }
+}
+
+/* ---- a difference ---- */
+
+static void print_rows(const char *what, const uint32_t *numbers, size_t len, size_t width)
+{
+    printf("%s, %lu numbers:\n", what, (unsigned long)len);
+    for (size_t i = 0; i < len; i++)
+        printf("%s%u%s", i % width == 0 ? "(" : ",", numbers[i],
+               i + 1 == len || i % width == width - 1 ? ") " : "");
+    puts("");
+}
+
+static void print_literals(const struct input *in)
+{
+    printf("literals, %lu:\n", (unsigned long)in->literals_len);
+    for (size_t i = 0; i < in->literals_len; i++)
+        printf("%.17g ", in->literals[i]);
+    puts("");
+}
+
+static void print_result(const char *who, const struct result *r, size_t room)
+{
+    printf("%s: number %u, place %u, begin %lu, length %lu, out:", who, r->number, r->place[1],
+           (unsigned long)r->begin, (unsigned long)r->length);
+    for (size_t i = 0; i < room && i < 40; i++)
+        printf(" %u", r->out[MARGIN + i]);
+    puts(room > 40 ? " ..." : "");
+}
+
+static void report(enum function f, const char *why, const struct input *in, size_t room,
+                   const struct result *expected, const struct result *found)
+{
+    printf("DIFFERENCE in %s: %s\n", names[f], why);
+    print_rows("table", in->table, in->table_len, 4);
+    print_rows("path", in->path, in->path_len, 5);
+    print_literals(in);
+    if (f == VIEW)
+        print_rows("list", in->list, in->list_len, 1);
+    printf("start %u, node %u, room %lu\n", in->start, in->node, (unsigned long)room);
+    print_result("reference", expected, room);
+    print_result("archive", found, room);
+}
+
+/* ---- comparing ---- */
+
+/* what is wrong with the archive's answer, or nothing */
+static const char *fault(enum function f, const struct result *expected, const struct result *found,
+                         const struct result *untouched)
+{
+    if (f == VIEW) {
+        if (found->length != expected->length)
+            return "the part's length";
+        return found->length > 0 && found->begin != expected->begin ? "the part's begin" : NULL;
+    }
+    if (found->number != expected->number)
+        return "the number";
+    if (found->place[1] != expected->place[1])
+        return "the place";
+    if (found->place[0] != untouched->place[0] || found->place[2] != untouched->place[2])
+        return "a word beside the place was written";
+    if (found->number != 0 && memcmp(found->out, untouched->out, sizeof found->out) != 0)
+        return "a refusal wrote to the output";
+    if (memcmp(found->out, expected->out, sizeof found->out) != 0)
+        return "the output slice or the words around it";
+    return NULL;
+}
+
+static bool inputs_kept(const struct input *in, struct fenced p)
+{
+    return memcmp(in->table, p.table, 4 * in->table_len) == 0 &&
+           memcmp(in->path, p.path, 4 * in->path_len) == 0 &&
+           memcmp(in->list, p.list, 4 * in->list_len) == 0 &&
+           memcmp(in->literals, p.literals, 8 * in->literals_len) == 0;
+}
+
+/* a room for the output: exact, short by one, none, or more than enough */
+static size_t choose_room(struct random *random, enum function f, size_t needed)
+{
+    switch (below(random, 5)) {
+    case 0: return needed;
+    case 1: return needed > 0 ? needed - 1 : 0;
+    case 2: return f == TURN ? below(random, (uint32_t)needed + 1) : 0;
+    case 3: return needed + below(random, 40);
+    default: return OUT_ROOM - below(random, 50);
+    }
+}
+
+/* how many words the answer takes, or -1 if the work is too long */
+static long words_needed(enum function f, const struct input *in)
+{
+    static struct result probe;
+    if (f == TURN)
+        return 5 * ((long)(in->path_len / 5) + 1);
+    if (f != EVALUATE)
+        return 0;
+    ask_reference(f, in, OUT_ROOM, &probe);
+    if (probe.number == REF_TOO_LONG)
+        return -1;
+    return probe.number == 0 ? (long)probe.place[1] : 3;
+}
+
+static bool agree(enum function f, struct random *random, const struct input *in)
+{
+    static struct result untouched, expected, found;
+    long needed = words_needed(f, in);
+    if (needed < 0) {
+        left_out++;
+        return true;
+    }
+    size_t room = choose_room(random, f, (size_t)needed);
+    struct fenced pointers = fence(in);
+    fill(&untouched, random->state);
+    expected = found = untouched;
+    ask_reference(f, in, room, &expected);
+    ask_archive(f, in, pointers, room, &found);
+    const char *why = fault(f, &expected, &found, &untouched);
+    if (!why && !inputs_kept(in, pointers))
+        why = "an input was changed";
+    if (why)
+        report(f, why, in, room, &expected, &found);
+    seen[f][expected.number]++;
+    return !why;
+}
+
+static void print_summary(uint64_t cases)
+{
+    for (int f = 0; f < FUNCTIONS; f++) {
+        printf("%-15s", names[f]);
+        for (int n = 0; n < 12; n++)
+            if (seen[f][n] > 0)
+                printf("  %d:%lu", n, (unsigned long)seen[f][n]);
+        puts(f == VIEW ? "  (0 empty, 1 a part)" : "  (number:times)");
+    }
+    printf("agreed: %lu inputs, %lu evaluations left out as too long\n",
+           (unsigned long)cases, (unsigned long)left_out);
+}
+
+static int compare(unsigned long seed, unsigned long count, unsigned long first)
+{
+    static struct input in;
+    for (unsigned long n = first; n < first + count; n++) {
+        struct random random = {(uint64_t)seed << 32 ^ n * 0x2545F4914F6CDD1Du};
+        make_input(&random, &in);
+        for (int f = 0; f < FUNCTIONS; f++)
+            if (!agree((enum function)f, &random, &in)) {
+                printf("seed %lu, case %lu\n", seed, n);
+                return 1;
+            }
+    }
+    print_summary(count);
+    return 0;
+}
+
+int main(int argc, char **argv)
+{
+    if (argc == 2 && strcmp(argv[1], "stress") == 0)
+        return stress();
+    if (argc != 3 && argc != 4) {
+        puts("usage: compare SEED COUNT [FIRST] | compare stress");
+        return 2;
+    }
+    return compare(strtoul(argv[1], NULL, 10), strtoul(argv[2], NULL, 10),
+                   argc == 4 ? strtoul(argv[3], NULL, 10) : 0);
+}

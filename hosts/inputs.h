@@ -1,0 +1,41 @@
+/* inputs.h: random tables, paths, literals and lists, sound and damaged.
+ *
+ * Everything follows from the state of the generator, so a seed and a case
+ * number give the same input on every machine.
+ */
+#ifndef INPUTS_H
+#define INPUTS_H
+
+#include <stdbool.h>
+#include <stddef.h>
+#include <stdint.h>
+
+enum { TABLE_ROOM = 4 * 4108, PATH_ROOM = 5 * 260, LITERAL_ROOM = 72, LIST_ROOM = 4200 };
+
+struct random { uint64_t state; };
+
+/* one input for all five functions */
+struct input {
+    uint32_t table[TABLE_ROOM], path[PATH_ROOM], list[LIST_ROOM];
+    double literals[LITERAL_ROOM];
+    size_t table_len, path_len, literals_len, list_len;
+    uint32_t start, node;
+};
+
+enum shape { MIXED, CHAIN, WIDE, BUSHY, SHAPES };
+
+uint32_t any(struct random *random);                    /* any number */
+uint32_t below(struct random *random, uint32_t limit);  /* 0 to limit - 1 */
+bool chance(struct random *random, uint32_t percent);
+
+/* an accepted table with that many rows */
+void make_table(struct random *random, struct input *in, uint32_t rows, enum shape shape);
+
+/* a path of at most that many rows (of exactly so many if full), with paths
+ * nested at most depth deep; uses in->literals_len */
+void make_path(struct random *random, struct input *in, uint32_t rows, bool full, int depth);
+
+/* a whole input: sound, or with damage in one place or more */
+void make_input(struct random *random, struct input *in);
+
+#endif

@@ -1,0 +1,289 @@
+/* stress.c: long, chained, deep and nested paths over 4,096 rows.
+ *
+ * Each case runs the archive in a thread whose stack is exactly 1 MiB, above a
+ * page that cannot be touched, and compares the answers with the reference,
+ * which runs on the ordinary stack. The stack is filled with a pattern first,
+ * so that the most that was used can be told.
+ */
+#include "stress.h"
+
+#include "bargetulip.h"
+#include "inputs.h"
+#include "reference.h"
+
+#include <pthread.h>
+#include <stdio.h>
+#include <stdlib.h>
+#include <string.h>
+#include <sys/mman.h>
+
+enum { ROWS = 4096, STACK = 1 << 20, PAGE = 4096, PATTERN = 0xA5, TURNED_ROOM = 5 * 256 };
+
+static const uint64_t WORK_LIMIT = 300000000;
+
+/* ---- paths, written bottom up ---- */
+
+struct maker { struct input *in; uint32_t rows; };
+
+static uint32_t row(struct maker *m, uint32_t op, uint32_t a, uint32_t b, uint32_t c, uint32_t d)
+{
+    uint32_t numbers[5] = {op, a, b, c, d};
+    memcpy(m->in->path + 5 * m->rows, numbers, sizeof numbers);
+    return ++m->rows;
+}
+
+static void finish(struct maker *m, uint32_t last_step)
+{
+    row(m, 22, last_step, 0, 0, 0);
+    m->in->path_len = 5 * (size_t)m->rows;
+}
+
+/* a number of steps, two axes in turn */
+static void many_steps(struct maker *m, int count, uint32_t odd, uint32_t even)
+{
+    uint32_t step = 0;
+    for (int i = 0; i < count; i++)
+        step = row(m, 24, step, 0, i % 2 == 0 ? odd : even, 0);
+    finish(m, step);
+}
+
+/* as many predicates on one step as fit: [position()] or [true] */
+static void many_predicates(struct maker *m, uint32_t axis, uint32_t op)
+{
+    uint32_t predicate = 0, each = op == 19 ? 3 : 2;
+    while (m->rows + each + 2 <= 256) {
+        uint32_t value = row(m, op == 19 ? 3 : op, 0, 0, 0, 0);
+        if (op == 19)
+            value = row(m, 19, value, 0, 0, 0);
+        predicate = row(m, 25, predicate, value, 0, 0);
+    }
+    finish(m, row(m, 24, 0, predicate, axis, 0));
+}
+
+/* a predicate with operands of one op nested as deep as fits, on its left or right */
+static void many_operands(struct maker *m, uint32_t op, bool right)
+{
+    bool truths = op == 16 || op == 17 || op == 18, single = op == 9 || op == 18;
+    uint32_t value = row(m, 2, 0, 0, 0, 0);
+    if (truths)
+        value = row(m, 19, value, 0, 0, 0);
+    while (m->rows + 6 <= 256) {
+        uint32_t leaf = single ? 0 : row(m, truths ? 3 : 1, 0, 0, 0, 0);
+        if (truths && !single)
+            leaf = row(m, 19, leaf, 0, 0, 0);
+        value = right && !single ? row(m, op, leaf, value, 0, 0) : row(m, op, value, leaf, 0, 0);
+    }
+    if (!truths)
+        value = row(m, 19, value, 0, 0, 0);
+    uint32_t predicate = row(m, 25, 0, value, 0, 0);
+    finish(m, row(m, 24, 0, predicate, 1, 0));
+}
+
+/* paths nested 8 deep, each of some steps, held by existence or count;
+ * the outermost path begins with the axis top */
+static void nested_paths(struct maker *m, uint32_t top, uint32_t axis, int steps, uint32_t op)
+{
+    uint32_t path = 0;
+    for (int depth = 8; depth > 0; depth--) {
+        uint32_t predicate = 0, step = 0;
+        if (path != 0) {
+            uint32_t value = row(m, op, path, 0, 0, 0);
+            if (op == 21)
+                value = row(m, 19, value, 0, 0, 0);
+            predicate = row(m, 25, 0, value, 0, 0);
+        }
+        if (depth == 1)
+            axis = top;
+        for (int i = 0; i < steps; i++)
+            step = row(m, 24, step, i == steps - 1 ? predicate : 0, i % 2 == 0 ? axis : 5, 0);
+        if (depth == 1)
+            finish(m, step);
+        else
+            path = row(m, 22, step, 0, 0, 0);
+    }
+}
+
+/* ---- one case on a small stack ---- */
+
+struct answers {
+    uint32_t table, path, evaluate, turn, place[4];
+    size_t begin, length;
+    uint32_t nodes[ROWS], turned[TURNED_ROOM];
+};
+
+struct job { const struct input *in; struct answers *answers; };
+
+static void *run_archive(void *argument)
+{
+    struct job *job = argument;
+    const struct input *in = job->in;
+    struct answers *a = job->answers;
+    a->table = bt_check_table(in->table, in->table_len, &a->place[0]);
+    a->path = bt_check_path(in->path, in->path_len, in->literals, in->literals_len, &a->place[1]);
+    a->evaluate = bt_evaluate(in->table, in->table_len, in->path, in->path_len, in->literals,
+                              in->literals_len, in->start, a->nodes, ROWS, &a->place[2]);
+    a->turn = bt_turn(in->path, in->path_len, in->literals, in->literals_len,
+                      a->turned, TURNED_ROOM, &a->place[3]);
+    bt_view(in->table, in->table_len, in->list, in->list_len, in->node, &a->begin, &a->length);
+    return NULL;
+}
+
+static void run_reference(const struct input *in, struct answers *a)
+{
+    a->table = ref_check_table(in->table, in->table_len, &a->place[0]);
+    a->path = ref_check_path(in->path, in->path_len, in->literals, in->literals_len, &a->place[1]);
+    a->evaluate = ref_evaluate(in->table, in->table_len, in->path, in->path_len, in->literals,
+                               in->literals_len, in->start, a->nodes, ROWS, &a->place[2], WORK_LIMIT);
+    a->turn = ref_turn(in->path, in->path_len, in->literals, in->literals_len,
+                       a->turned, TURNED_ROOM, &a->place[3]);
+    ref_view(in->table, in->table_len, in->list, in->list_len, in->node, &a->begin, &a->length);
+    if (a->evaluate == REF_TOO_LONG)
+        puts("stress: a case is above the reference's limit");
+}
+
+static char *make_stack(void)
+{
+    char *area = mmap(NULL, STACK + PAGE, PROT_READ | PROT_WRITE, MAP_PRIVATE | MAP_ANONYMOUS, -1, 0);
+    if (area == MAP_FAILED || mprotect(area, PAGE, PROT_NONE) != 0) {
+        puts("stress: no memory for a stack");
+        exit(2);
+    }
+    return area + PAGE;
+}
+
+/* runs the archive on the small stack and gives back how much of it was used */
+static size_t on_small_stack(char *stack, struct job *job)
+{
+    pthread_attr_t attributes;
+    pthread_t thread;
+    size_t unused = 0;
+    memset(stack, PATTERN, STACK);
+    if (pthread_attr_init(&attributes) != 0 || pthread_attr_setstack(&attributes, stack, STACK) != 0 ||
+        pthread_create(&thread, &attributes, run_archive, job) != 0 || pthread_join(thread, NULL) != 0) {
+        puts("stress: no thread");
+        exit(2);
+    }
+    while (unused < STACK && (unsigned char)stack[unused] == PATTERN)
+        unused++;
+    return STACK - unused;
+}
+
+/* ---- the cases ---- */
+
+static struct input in;
+static size_t most;
+static int differences;
+
+static void run_case(const char *what)
+{
+    static char *stack;
+    static struct answers expected, found;
+    struct job job = {&in, &found};
+    if (!stack)
+        stack = make_stack();
+    memset(&expected, 0, sizeof expected);
+    memset(&found, 0, sizeof found);
+    run_reference(&in, &expected);
+    size_t used = on_small_stack(stack, &job);
+    if (expected.length == 0)
+        found.begin = expected.begin;
+    bool same = memcmp(&expected, &found, sizeof found) == 0;
+    printf("%s  %-48s %4lu rows, evaluate %u/%u, turn %u/%u, stack %lu KiB\n", same ? "same" : "DIFFERENT",
+           what, (unsigned long)(in.path_len / 5), found.evaluate, found.place[2], found.turn,
+           found.place[3], (unsigned long)(used / 1024));
+    most = used > most ? used : most;
+    differences += !same;
+}
+
+static struct maker begin(enum shape shape, uint32_t start)
+{
+    struct random random = {7};
+    struct maker maker = {&in, 0};
+    make_table(&random, &in, ROWS, shape);
+    memset(in.path, 0, sizeof in.path);
+    in.literals[0] = 1;
+    in.literals_len = 1;
+    for (in.list_len = 0; in.list_len < ROWS; in.list_len++)
+        in.list[in.list_len] = (uint32_t)in.list_len;
+    in.start = start;
+    in.node = 1;
+    return maker;
+}
+
+static void run_steps(void)
+{
+    struct maker m = begin(CHAIN, 0);
+    many_steps(&m, 255, 1, 1);
+    run_case("255 steps down a chain");
+    m = begin(CHAIN, 4000);
+    many_steps(&m, 255, 2, 0);
+    run_case("255 steps up a chain");
+    m = begin(MIXED, 9);
+    many_steps(&m, 255, 1, 2);
+    run_case("255 steps child and parent");
+    m = begin(WIDE, 2);
+    many_steps(&m, 8, 9, 10);
+    run_case("8 steps between siblings");
+    m = begin(BUSHY, 0);
+    many_steps(&m, 12, 5, 6);
+    run_case("12 steps over all nodes, down and up");
+    m = begin(MIXED, 0);
+    many_steps(&m, 6, 5, 7);
+    run_case("6 steps over all nodes, following");
+    m = begin(CHAIN, 0);
+    many_steps(&m, 6, 5, 8);
+    run_case("6 steps over all nodes, preceding");
+}
+
+static void run_predicates(void)
+{
+    struct maker m = begin(WIDE, 1);
+    many_predicates(&m, 1, 2);
+    run_case("[position()] chained");
+    m = begin(WIDE, 4095);
+    many_predicates(&m, 8, 3);
+    run_case("[last()] chained, preceding");
+    m = begin(BUSHY, 0);
+    many_predicates(&m, 3, 19);
+    run_case("[true] chained, descendant");
+}
+
+static void run_operands(void)
+{
+    static const uint32_t ops[] = {4, 5, 6, 7, 8, 9, 16, 17, 18};
+    static const char *const names[] = {"+", "-", "*", "div", "mod", "negation", "and", "or", "not"};
+    char what[64] = "operands on one side: ";
+    for (int i = 0; i < 9; i++)
+        for (int right = 0; right < 2; right++) {
+            struct maker m = begin(WIDE, 1);
+            many_operands(&m, ops[i], right);
+            memcpy(what + 22, names[i], strlen(names[i]) + 1);
+            run_case(what);
+        }
+}
+
+static void run_nested(void)
+{
+    struct maker m = begin(CHAIN, 0);
+    nested_paths(&m, 3, 1, 1, 20);
+    run_case("existence nested 8 deep, child, from all nodes");
+    m = begin(BUSHY, 0);
+    nested_paths(&m, 3, 1, 1, 21);
+    run_case("count nested 8 deep, child, from all nodes");
+    m = begin(CHAIN, 4095);
+    nested_paths(&m, 4, 2, 1, 20);
+    run_case("existence nested 8 deep, parent, from a chain");
+    m = begin(WIDE, 4000);
+    nested_paths(&m, 0, 0, 25, 20);
+    run_case("existence nested 8 deep, 25 steps each");
+}
+
+int stress(void)
+{
+    run_steps();
+    run_predicates();
+    run_operands();
+    run_nested();
+    printf("stress: %d different; most stack used %lu KiB of 1,024\n", differences, (unsigned long)(most / 1024));
+    return differences != 0;
+}

@@ -1,0 +1,140 @@
+/* bargetulip.h: the proved XPath 1.0 checker, called from C.
+ *
+ * Five functions over plain numbers: two checkers, an evaluator, a path
+ * turner and a view of an answer inside one subtree. What a table, a path and
+ * an answer are is said below as far as a caller needs it; document 01 of the
+ * project is the definition. Link with libcapi.a (made by `rt staticlib capi`)
+ * on x86-64 Linux, and with -lm.
+ *
+ * A node table is 4 numbers a row, 1 to 4,096 rows, in document order:
+ *   kind    0 root (row 0 only), 1 element, 2 text, 3 comment,
+ *           4 processing instruction
+ *   name    1 to 65,535 for kinds 1 and 4, otherwise 0
+ *   parent  row number of the parent; 0 in row 0
+ *   size    number of descendants; 0 for kinds 2, 3 and 4
+ *
+ * A path is 5 numbers a row (op, a, b, c, d), 1 to 256 rows. A link is a row
+ * number plus one and names a lower row; 0 is no link. Every row but the last
+ * is linked exactly once; the last row is the whole path. Unused fields are 0.
+ *   1          literal            a = index into the literals
+ *   2, 3       position(), last()
+ *   4 to 8     + - * div mod      a, b = numbers
+ *   9          negation           a = number
+ *   10 to 15   = != < <= > >=     a, b = numbers
+ *   16, 17     and, or            a, b = truths
+ *   18         not                a = truth
+ *   19         truth of a number  a = number
+ *   20, 21     path selects something, count of a path   a = path
+ *   22         relative path      a = its last step
+ *   23         absolute path      a = its last step, or 0 for "/"
+ *   24         step               a = previous step or 0,
+ *                                 b = last predicate or 0, c = axis, d = test
+ *   25         predicate          a = previous predicate or 0,
+ *                                 b = number or truth
+ * Axes: 0 self, 1 child, 2 parent, 3 descendant, 4 ancestor,
+ * 5 descendant-or-self, 6 ancestor-or-self, 7 following, 8 preceding,
+ * 9 following-sibling, 10 preceding-sibling.
+ * Tests: 0 node(), 1 *, 2 text(), 3 comment(), 4 processing-instruction(),
+ * 16 + k an element named k.
+ *
+ * Literals are finite doubles with a clear sign bit, at most 64 of them.
+ *
+ * Rules for every call
+ *   - Lengths count numbers (uint32_t or double), not rows and not bytes.
+ *   - Every pointer must be non-null and aligned for its type, even where its
+ *     length is 0 (nothing is then read or written through it).
+ *   - What a function writes (out, place, begin, length) must overlap neither
+ *     each other nor what it reads (table, path, literals, list).
+ *     What it only reads may overlap freely and is never changed.
+ *   - Nothing is kept after the call: the caller owns all memory.
+ *   - No heap, no globals, no locks, no files: the functions are reentrant and
+ *     may run in any number of threads. They always return.
+ *   - A stack of 1 MiB is enough for every input.
+ *   - Any content is allowed: damaged tables, paths, literals and lists are
+ *     refused with a number and a place, never undefined behaviour.
+ */
+#ifndef BARGETULIP_H
+#define BARGETULIP_H
+
+#include <stddef.h>
+#include <stdint.h>
+
+#ifdef __cplusplus
+extern "C" {
+#endif
+
+/* The numbers given back. Checks run in this order and the first that applies
+ * is returned; *place is always written and means what the comment says. */
+enum {
+    BT_DONE = 0,          /* done: nodes or rows written (checkers: row count) */
+    BT_TABLE_LENGTH = 1,  /* table length not 4 to 16,384 or not a multiple of 4: 0 */
+    BT_TABLE_ROW = 2,     /* broken table row: the lowest one */
+    BT_PATH_LENGTH = 3,   /* path length not 5 to 1,280 or not a multiple of 5: 0 */
+    BT_LITERAL = 4,       /* bad literal: the lowest bad index; 64 if the first 64
+                             are good and there are more */
+    BT_PATH_ROW = 5,      /* broken path row: the lowest one */
+    BT_DEPTH = 6,         /* paths nested more than 8 deep: 0 */
+    BT_START = 7,         /* start is not a row of the table: start */
+    BT_ROOM = 8,          /* more nodes selected than out holds: how many */
+    BT_COUNTS = 9,        /* turning: a step counts positions: its number from 1,
+                             the first such */
+    BT_ABSOLUTE = 10,     /* turning: the path is absolute: 0 */
+    BT_TURN_ROOM = 11     /* turning: rows + 1 above 256, or out shorter than
+                             5 * (rows + 1): rows + 1 */
+};
+
+/* The largest table, path, literal list and nesting that are accepted. */
+enum {
+    BT_MAX_TABLE_ROWS = 4096,
+    BT_MAX_PATH_ROWS = 256,
+    BT_MAX_LITERALS = 64,
+    BT_MAX_DEPTH = 8
+};
+
+/* Checks a node table.
+ * Returns 0, 1 or 2. *place: the row count (0), 0 (1), the lowest broken row (2). */
+uint32_t bt_check_table(const uint32_t *table, size_t table_len, uint32_t *place);
+
+/* Checks a path and its literals; literals that no row uses are checked too.
+ * Returns 0 or 3 to 6. *place: the row count (0), otherwise as in the list above. */
+uint32_t bt_check_path(const uint32_t *path, size_t path_len,
+                       const double *literals, size_t literals_len,
+                       uint32_t *place);
+
+/* Selects the nodes of a path, from the node start (which must be a row even
+ * if the path is absolute).
+ * Returns 0 to 8. On 0 the selected row numbers stand in ascending order in
+ * out[0 .. *place - 1] and the rest of out is unchanged. On every other number
+ * out is unchanged; on 8, *place says how much room is needed. A room of
+ * as many numbers as the table has rows is always enough; selecting nothing
+ * into no room is 0. */
+uint32_t bt_evaluate(const uint32_t *table, size_t table_len,
+                     const uint32_t *path, size_t path_len,
+                     const double *literals, size_t literals_len,
+                     uint32_t start,
+                     uint32_t *out, size_t out_len, uint32_t *place);
+
+/* Turns a relative path round: x is selected from y by the turned path exactly
+ * if y is selected from x by the path, on every accepted table.
+ * Returns 0, 3 to 6 or 9 to 11. On 0 the *place rows of the turned path stand
+ * in out[0 .. 5 * *place - 1], to be used with the same literals, and the rest
+ * of out is unchanged. On every other number out is unchanged. */
+uint32_t bt_turn(const uint32_t *path, size_t path_len,
+                 const double *literals, size_t literals_len,
+                 uint32_t *out, size_t out_len, uint32_t *place);
+
+/* The part of an answer that lies in the subtree of one node, without a copy:
+ * list[*begin .. *begin + *length - 1] are the entries from node to the last
+ * row of its subtree, both included. Both are always written.
+ * *length is 0 if there is no such entry, the table is not accepted, node is
+ * not a row, or the list is not strictly ascending with every entry below the
+ * row count; *begin then means nothing. */
+void bt_view(const uint32_t *table, size_t table_len,
+             const uint32_t *list, size_t list_len,
+             uint32_t node, size_t *begin, size_t *length);
+
+#ifdef __cplusplus
+}
+#endif
+
+#endif

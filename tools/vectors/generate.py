@@ -1,0 +1,225 @@
+# Makes crates/vectors/stdin and crates/vectors/stdout from a fixed seed.
+# usage: generate.py <folder with the engine programs> <output folder>
+import sys
+
+import checker
+import damage
+import engines
+import examples
+import meaning
+import paths
+import selection
+import tables
+import text
+from rng import Rng
+from sheet import Sheet
+
+SEED = 20250101
+
+
+def ask_cases(build, cases):
+    """Both engines' answers for each case."""
+    questions = []
+    table = None
+    for case in cases:
+        if case["table"] != table:
+            table = case["table"]
+            assert checker.check_table(table)[0] == 0
+            questions.append(engines.document_question(table, case["loose"]))
+        case["text"] = text.path_text(case["path"], case["literals"])
+        questions.append(engines.eval_question(case["start"], case["text"]))
+    first, second = engines.ask_both(build, questions)
+    assert len(first) == len(second) == len(cases)
+    for case, p, l in zip(cases, first, second):
+        case["pugixml"] = engines.read_answer(p)
+        case["libxml2"] = engines.read_answer(l)
+
+
+class WithoutFirst(meaning.Tree):
+    """docs/ENGINES.md: on preceding:: libxml2 leaves out the first child of
+    the root where that has children."""
+
+    def axis(self, i, axis):
+        nodes = super().axis(i, axis)
+        if axis == 8 and self.count > 1 and self.size[1] > 0:
+            return [n for n in nodes if n != 1]
+        return nodes
+
+
+def known_error(case):
+    """Whether libxml2's answer is exactly what its known error makes of it."""
+    evaluator = meaning.Evaluator(case["table"], case["path"], case["literals"])
+    evaluator.tree = WithoutFirst(case["table"])
+    explained = evaluator.select(case["start"]) == case["libxml2"]
+    return explained and case["pugixml"] == case["guess"]
+
+
+def sort_out(cases, log):
+    """The cases on which the engines agree; the others go to the log."""
+    kept = []
+    for case in cases:
+        if agreed(case):
+            kept.append(case)
+            continue
+        log.append("%(name)s from %(start)d: %(text)s\n  pugixml %(pugixml)s\n"
+                   "  libxml2 %(libxml2)s\n  third   %(guess)s\n" % case)
+        if not known_error(case):
+            sys.exit("a disagreement that docs/ENGINES.md does not explain:\n" + log[-1])
+    return kept
+
+
+def choose_room(rng, count):
+    choice = rng.below(20)
+    if choice < 3 and count > 0:
+        return count - 1
+    if choice == 3:
+        return rng.below(count + 1)
+    if choice < 8:
+        return min(4096, count + rng.between(1, 30))
+    return count
+
+
+def write_case(rng, sheet, case, sort):
+    nodes = case["pugixml"]
+    room = len(nodes) + 2 if "expected" in case else choose_room(rng, len(nodes))
+    where = (case["table"], case["path"], case["literals"], case["start"], room)
+    if len(nodes) > room:
+        sheet.evaluate(sort, *where, 8, len(nodes), [])
+    else:
+        sheet.evaluate(sort, *where, 0, len(nodes), nodes)
+
+
+# ---- turned paths, held against the engines ----
+
+def all_starts(name, table, path, literals):
+    cases = []
+    for start in range(len(table) // 4):
+        nodes, _ = selection.guess(table, path, literals, start, 30000)
+        if nodes is None:
+            return None
+        cases.append(dict(name=name, table=table, loose=False, path=path,
+                          literals=literals, start=start, guess=nodes))
+    return cases
+
+
+def turning_pair(rng, table, names):
+    """The cases of a path and of its turned path from every node, or None."""
+    top = damage.quiet_top(rng, names)
+    path, literals = paths.write_path(rng, top, rng.chance(60))
+    room = 5 * (len(path) // 5 + 1) + rng.pick([0, 0, 1, 7])
+    if checker.check_path(path, literals)[0] != 0:
+        return None
+    number, place, turned = checker.turn(path, literals, room)
+    assert number == 0 and checker.check_path(turned, literals) == (0, place)
+    there = all_starts("turning", table, path, literals)
+    back = all_starts("turned", table, turned, literals)
+    if there is None or back is None or not any(c["guess"] for c in there):
+        return None
+    return dict(path=path, literals=literals, room=room, there=there, back=back)
+
+
+def engine_relation(cases, engine):
+    return {(case["start"], n) for case in cases for n in case[engine]}
+
+
+def turns_round(pair):
+    """Whether each engine selects x from y exactly when y from x."""
+    for engine in ("pugixml", "libxml2"):
+        there = engine_relation(pair["there"], engine)
+        back = engine_relation(pair["back"], engine)
+        if not relation_turns(there, back):
+            return False
+    return True
+
+
+def agreed(case):
+    return case["pugixml"] == case["libxml2"] == case["guess"]
+
+
+def relation_turns(there, back):
+    return there == {(y, x) for x, y in back}
+
+
+def explained_pair(pair):
+    """pugixml bears the turning out; libxml2 does, but for its known error."""
+    there, back = (engine_relation(pair[k], "pugixml") for k in ("there", "back"))
+    cases = pair["there"] + pair["back"]
+    return relation_turns(there, back) and all(agreed(c) or known_error(c) for c in cases)
+
+
+def turning_cases(rng, build, sheet, log, count):
+    pairs = []
+    while len(pairs) < count:
+        table = tables.make_table(rng, rng.pick(selection.SHAPES), rng.between(4, 22), [1, 2, 3], 25)
+        for _ in range(4):
+            pair = turning_pair(rng, table, [1, 2, 3])
+            if pair is not None:
+                pairs.append(pair)
+    asked = [c for pair in pairs for c in pair["there"] + pair["back"]]
+    ask_cases(build, asked)
+    print("turning pairs %d, asked with %d questions" % (len(pairs), len(asked)))
+    for pair in pairs:
+        if not explained_pair(pair):
+            sys.exit("a disagreement on turning: " + pair["there"][0]["text"])
+        if not turns_round(pair):
+            log.append("turning: " + pair["there"][0]["text"] + "\n")
+            continue
+        result = checker.turn(pair["path"], pair["literals"], pair["room"])
+        sheet.turn("turning", pair["path"], pair["literals"], pair["room"], *result)
+        for cases in (pair["there"], pair["back"]):
+            best = max(cases, key=lambda c: len(c["guess"]))
+            if agreed(best):
+                write_case(rng, sheet, best, "turning")
+
+
+# ---- the document's own examples ----
+
+def example_cases(rng, build, sheet):
+    cases = examples.reference_cases()
+    ask_cases(build, cases)
+    for case in cases:
+        assert case["pugixml"] == case["libxml2"] == case["guess"] == case["expected"], case["name"]
+        write_case(rng, sheet, case, "document")
+    settled = examples.settled_cases()
+    ask_cases(build, settled)
+    for case in settled:
+        assert case["pugixml"] == case["guess"] == case["expected"], case["text"]
+        write_case(rng, sheet, case, "settled")
+        if case["libxml2"] == case["expected"]:
+            print("this libxml2 is right on:", case["text"])
+
+
+def write_lines(name, lines):
+    with open(name, "w", newline="\n") as out:
+        out.write("\n".join(lines) + "\n")
+
+
+def report(sheet, chosen, kept, scans):
+    print("evaluation cases asked %d, kept %d" % (len(chosen), len(kept)))
+    print("whole-table row scans of the random cases: %d million" % (scans // 1000000))
+    for key in sorted(sheet.counts):
+        print("%-10s %-12s %-6s %6d" % (key + (sheet.counts[key],)))
+    print("commands %d" % len(sheet.answers))
+
+
+def main(build, folder):
+    sys.setrecursionlimit(10000)
+    sheet, log = Sheet(), []
+    example_cases(Rng(SEED), build, sheet)
+    chooser = selection.choose_cases(Rng(SEED + 1))
+    ask_cases(build, chooser.cases)
+    kept = sort_out(chooser.cases, log)
+    rng = Rng(SEED + 2)
+    for case in kept:
+        write_case(rng, sheet, case, "engines")
+    turning_cases(Rng(SEED + 3), build, sheet, log, 160)
+    damage.add_damage(Rng(SEED + 4), sheet)
+    write_lines(folder + "/stdin", sheet.commands)
+    write_lines(folder + "/stdout", sheet.answers)
+    write_lines(build + "/disagreements.txt", log)
+    report(sheet, chooser.cases, kept, chooser.scans)
+    print("disagreements %d, listed in %s/disagreements.txt" % (len(log), build))
+
+
+if __name__ == "__main__":
+    main(sys.argv[1], sys.argv[2])

@@ -1,0 +1,98 @@
+# Reads the vector commands and answers them with checker.py and meaning.py:
+# the same reading as the program's, as a check of the files. With a slip it
+# answers as a wrong program would.
+# usage: replay.py <stdin file> <stdout file> [all | name of a slip]
+# Prints how many answers differ from the stored ones; without a slip the exit
+# code is 1 if any does.
+import sys
+
+import meaning
+import slips
+
+
+class Player:
+    def __init__(self, check, evaluator):
+        self.check = check
+        self.evaluator = evaluator
+        self.state = {"table": [], "path": [], "literals": []}
+
+    def line(self, words):
+        """The answer to one command, or None."""
+        numbers = [int(w) for w in words[1:]]
+        if words[0] in self.state:
+            assert numbers[0] == len(numbers) - 1
+            self.state[words[0]] = numbers[1:]
+            return None
+        return getattr(self, words[0])(*numbers)
+
+    def check_table(self):
+        return "%d %d" % self.check.check_table(self.state["table"])
+
+    def check_path(self):
+        return "%d %d" % self.check.check_path(self.state["path"], self.state["literals"])
+
+    def evaluate(self, start, room):
+        inputs = [self.state[k] for k in ("table", "path", "literals")]
+        refused = self.check.refuse_evaluate(*inputs, start)
+        if refused is not None:
+            return "%d %d" % refused
+        if self.evaluator is None:
+            return "runs"
+        nodes = self.evaluator(*inputs).select(start)
+        if len(nodes) > room:
+            return "8 %d" % len(nodes)
+        return " ".join(str(v) for v in [0, len(nodes)] + nodes)
+
+    def turn(self, room):
+        number, place, rows = self.check.turn(self.state["path"], self.state["literals"], room)
+        return " ".join(str(v) for v in [number, place] + rows)
+
+    def view(self, node, count, *entries):
+        assert count == len(entries)
+        part = self.check.view(self.state["table"], list(entries), node)
+        return "empty" if part is None else "%d %d" % part
+
+
+def answers(commands, check, evaluator):
+    player = Player(check, evaluator)
+    out = []
+    for line in commands:
+        try:
+            answer = player.line(line.split())
+        except (RecursionError, IndexError, TypeError, meaning.TooLong):
+            answer = "fails"
+        if answer is not None:
+            out.append(answer)
+    return out
+
+
+def differing(commands, expected, check, evaluator):
+    got = answers(commands, check, evaluator)
+    assert len(got) == len(expected)
+    return sum(not same(x, y) for x, y in zip(got, expected))
+
+
+def same(got, expected):
+    """A wrong checker is tried without evaluating: it only says what runs."""
+    return got == expected or (got == "runs" and expected.split()[0] in ("0", "8"))
+
+
+def read(name):
+    with open(name) as source:
+        return source.read().splitlines()
+
+
+def main(commands, expected, slip):
+    sys.setrecursionlimit(10000)
+    if slip is None:
+        wrong = differing(commands, expected, slips.checker_copy(), meaning.Evaluator)
+        print("%d answers, %d differ" % (len(expected), wrong))
+        return 1 if wrong else 0
+    for name in slips.NAMES if slip == "all" else [slip]:
+        wrong = differing(commands, expected, *slips.make(name))
+        print("%-34s %6d" % (name, wrong), flush=True)
+    return 0
+
+
+if __name__ == "__main__":
+    sys.exit(main(read(sys.argv[1]), read(sys.argv[2]), sys.argv[3] if len(sys.argv) > 3 else None))
