@@ -4,7 +4,7 @@
 -- Assumes nothing.
 use Prim.Native.Nat.{ℕ, _-_, _<_}
 use mathlib.Core.Path.{_≡_, refl, sym, ap, _∙_}
-use mathlib.Core.Bool.{Bool, true, false, _&&_, _||_, not, and-true, and-false, and-comm}
+use mathlib.Core.Bool.{Bool, true, false, _&&_, _||_, not, cond, and-true, and-false, and-comm}
 use mathlib.Core.List.{List, [], _∷_}
 use lib.ListN.{length}
 use lib.Dec.{ltb, eqb}
@@ -154,6 +154,11 @@ module _ (t : List ℕ) (literals : List Float) (p : List ℕ) (l : ℕ) where
         pub or-row : op ≡ 17 → (y : ℕ) → (true-at t literals (tree p a) y || true-at t literals (tree p b) y) ≡ true-at t literals (tree p l) y
         unfolding opOf
         or-row e y = rw (tree-row p l some-row, ← is-first, ← is-second, ← is-op, e) (sym (true-or t literals (tree p a) (tree p b) (indexOrAxis p (l - 1)) (testAt p (l - 1)) y))
+
+        -- the two under one head: an or where any, else an and
+        pub pair-row : (any : Bool) → op ≡ cond any 17 16 → (y : ℕ) → cond any (true-at t literals (tree p a) y || true-at t literals (tree p b) y) (true-at t literals (tree p a) y && true-at t literals (tree p b) y) ≡ true-at t literals (tree p l) y
+        pair-row true e y = or-row e y
+        pair-row false e y = and-row e y
 
       pub not-row : op ≡ 18 → (y : ℕ) → not (true-at t literals (tree p a) y) ≡ true-at t literals (tree p l) y
       unfolding opOf

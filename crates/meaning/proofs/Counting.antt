@@ -8,7 +8,7 @@ use lib.Dec.{eqb}
 use native.Mathlib.Omega.{arith}
 use Rattle.meaning.specs.Rows.{opOf, field, firstLink, secondLink, isNumber}
 use Rattle.meaning.specs.Tree.{tree}
-use Rattle.meaning.specs.Turning.{contextual, overPath, numeric, asks, counting, steps, firstCounting}
+use Rattle.meaning.specs.Turning.{contextual, overPath, numeric, asks, counting, counts, steps, firstCounting}
 use Rattle.meaning.proofs.Trees.{op-is, tree-zero, tree-row}
 
 -- ---- ops
@@ -36,6 +36,10 @@ module _ (p : List ℕ) (l : ℕ) where
   pub counting-none : l ≡ 0 → false ≡ counting (tree p l)
   unfolding counting
   counting-none e = rw (e, tree-zero p)
+
+  pub counts-none : l ≡ 0 → false ≡ counts (tree p l)
+  unfolding counts
+  counts-none e = rw (e, tree-zero p)
 
   pub steps-none : l ≡ 0 → (0 ≡ steps (tree p l)) × (0 ≡ firstCounting (tree p l))
   unfolding steps firstCounting
@@ -68,6 +72,10 @@ module _ (p : List ℕ) (l : ℕ) where
       pub counting-row : (u v w x r : Bool) → u ≡ counting (tree p a) → v ≡ numeric (tree p b) → w ≡ asks (tree p b) → x ≡ (v || w) → r ≡ (u || x) → r ≡ counting (tree p l)
       unfolding counting
       counting-row u v w x r f g k m n = rw (tree-row p l h, ← is-a, ← is-b, ← f, ← g, ← k, ← m) n
+
+      pub counts-row : (u v r : Bool) → u ≡ counts (tree p a) → v ≡ counting (tree p b) → r ≡ (u || v) → r ≡ counts (tree p l)
+      unfolding counts
+      counts-row u v r f g k = rw (tree-row p l h, ← is-a, ← is-b, ← f, ← g) k
 
       pub steps-row : (n first : ℕ) (own : Bool) (r : ℕ) → (n ≡ steps (tree p a)) × (first ≡ firstCounting (tree p a)) → own ≡ counting (tree p b)
           → r ≡ cond (eqb first 0) (cond own (n + 1) 0) first → (n + 1 ≡ steps (tree p l)) × (r ≡ firstCounting (tree p l))

@@ -70,3 +70,17 @@ pub fn counting(path: &[u32], link: usize) -> bool
     let held = second_link(path, row);
     either(before, either(is_numeric(path, held), asks(path, held)))
 }
+
+// Does a step of the chain count?
+pub fn counts(path: &[u32], link: usize) -> bool
+    requires { ⌜ link ≤ 256 ⌝ }
+    ensures { λ r. ⌜ r ≡ turning.counts (tree (now (path .entry)) link) ⌝ }
+{
+    if link == 0 {
+        return false;
+    }
+    let row = link - 1;
+    let before = counts(path, first_link(path, row));
+    let held = second_link(path, row);
+    either(before, counting(path, held))
+}

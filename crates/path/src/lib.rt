@@ -9,6 +9,7 @@ ghost use mathlib.Core.Bool.{_&&_, _||_};
 ghost use Prim.Native.Nat.{_<_, _≤_};
 ghost use Rattle.meaning.specs.Rows.{opOf, field, rowsOf, fieldsOf, isLink, firstLink, secondLink};
 ghost use Rattle.meaning.specs.Tree.{indexOrAxis, testAt};
+ghost use Rattle.meaning.specs.Turning.{inverseOf};
 
 pub fn row_count(path: &[u32]) -> usize
     ensures { λ r. ⌜ r ≡ rowsOf (now (path .entry)) ⌝ }
@@ -86,6 +87,25 @@ pub fn test_at(path: &[u32], row: usize) -> usize
 {
     match field_at(path, row, 0) {
         24 => field_at(path, row, 4),
+        _ => 0,
+    }
+}
+
+// The number of the inverse axis: 0 with itself, an odd axis with the one above it, an even one with the one below.
+pub fn inverse_axis(axis: usize) -> usize
+    ensures { λ r. ⌜ (r ≡ inverseOf axis) × (r ≤ 10) ⌝ }
+{
+    match axis {
+        1 => 2,
+        2 => 1,
+        3 => 4,
+        4 => 3,
+        5 => 6,
+        6 => 5,
+        7 => 8,
+        8 => 7,
+        9 => 10,
+        10 => 9,
         _ => 0,
     }
 }

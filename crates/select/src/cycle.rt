@@ -1,12 +1,14 @@
-// The cycle: an expression, a chain of predicates, a step, a chain of steps, a path, and how many nodes it selects.
-// Each call goes to a lower row, but for those within one step and within one path; so links, with room for two calls at the
-// same link, bound the depth. Large arrays stand where a path is entered, and are lent to all below.
+// The cycle: an expression, a chain of predicates, a step, a chain of steps, a path, and how many nodes it selects; and the
+// same over whole sets, where no position is counted: a step, a chain of predicates, a truth, and a chain of steps backwards.
+// Each call goes to a lower row, but for those within one step, one truth and one path; so links, with room for three calls at
+// the same link, bound the depth. Large arrays stand where a path is entered, and are lent to all below.
 use crate::MOST_ROWS;
 use crate::candidates::list_candidates;
 use crate::marks::add_marks;
 use crate::marks::clear_marks;
 use crate::marks::copy_marks;
 use crate::marks::count_marks;
+use crate::marks::sift;
 use crate::marks::start_marks;
 use crate::values::apply;
 use crate::values::float_of;
@@ -14,26 +16,45 @@ use crate::values::is_over_path;
 use crate::values::keeps;
 use crate::values::takes_first;
 use crate::values::takes_second;
+use crate::values::truth_of;
+use basics::below;
 use basics::wide;
 use meaning::Context;
 use meaning::Value;
+use path::counting::counting;
+use path::counting::counts;
 use path::field_at;
 use path::first_link;
 use path::index_or_axis;
+use path::inverse_axis;
 use path::second_link;
 use path::test_at;
+use reach::reach;
+use sieve::choose;
+use sieve::enter;
+use sieve::exchange;
+use sieve::leave;
+use sieve::recast;
+use sieve::settle;
+use sieve::settle_all;
 use table::row_count;
 ghost use mathlib.Core.Path.{_≡_};
-ghost use mathlib.Core.Bool.{false, _||_};
-ghost use Prim.Native.Nat.{ℕ, _<_, _≤_};
+ghost use mathlib.Core.Bool.{true, false, _||_, cond};
+ghost use Prim.Native.Nat.{ℕ, _+_, _-_, _*_, _<_, _≤_};
 ghost use lib.ListN.{length, getD, take};
 ghost use Rattle.meaning.specs.Lists.{has};
-ghost use Rattle.meaning.specs.Table.{mostRows};
+ghost use Rattle.meaning.specs.Table.{rows, mostRows};
+ghost use Rattle.meaning.specs.Rows.{field};
 ghost use Rattle.meaning.specs.Tree.{tree};
+ghost use Rattle.meaning.specs.Turning as turning;
 ghost use Rattle.meaning.specs.Meaning as Meaning;
 ghost use Rattle.meaning.proofs.Marks.{listed};
 ghost use Rattle.meaning.proofs.Evaluation.{stepTo};
+ghost use Rattle.meaning.proofs.Free.{true-at};
+ghost use Rattle.meaning.proofs.Backward.{backs};
+ghost use Rattle.sieve.specs.Sieve.{Sieved, Bounded};
 ghost use Rattle.select.specs.Ready.{Ready};
+ghost use Rattle.select.specs.Sets.{Narrowed, Led, LedBy};
 
 // The value of the expression that a link names, in a context.
 fn expression(table: &[u32], path: &[u32], literals: &[f64], link: usize, context: Context) -> Value
@@ -156,6 +177,275 @@ fn step(
     }
 }
 
+// Decides the truth that a link names for the active rows, one by one.
+fn decide_each(
+    table: &[u32],
+    path: &[u32],
+    literals: &[f64],
+    link: usize,
+    active: u16,
+    states: &mut [u16],
+)
+    requires { ⌜ Ready (now table) link ⌝ ∗ ⌜ (active ≤ 1000) × (length (now states) ≡ mostRows) ⌝ }
+    ensures { λ _. ⌜ Sieved (true-at (now (table .entry)) (now (literals .entry)) (tree (now (path .entry)) link)) active (rows (now (table .entry))) (now (states .entry)) (now (states .exit)) ⌝ }
+{
+    let n = row_count(table);
+    let unasked = float_of(0);
+    let mut i = 0;
+    while i < n {
+        if states[i] == active {
+            let v = expression(
+                table,
+                path,
+                literals,
+                link,
+                Context {
+                    node: i,
+                    position: unasked,
+                    size: unasked,
+                },
+            );
+            states[i] = choose(truth_of(v), active, active + 1);
+        }
+        i += 1;
+    }
+}
+
+// Decides an and, or where any an or: the rows that the first operand leaves open are raised by a level for the second.
+fn decide_pair(
+    table: &[u32],
+    path: &[u32],
+    literals: &[f64],
+    link: usize,
+    any: bool,
+    active: u16,
+    states: &mut [u16],
+)
+    requires { ⌜ Ready (now table) link ⌝ ∗ ⌜ (0 < link) × (active + 2 * link ≤ 1000) × (length (now states) ≡ mostRows) ⌝ ∗ ⌜ field (now path) (link - 1) 0 ≡ cond any 17 16 ⌝ ∗ ⌜ Bounded (rows (now table)) active (now states) ⌝ }
+    ensures { λ _. ⌜ Sieved (true-at (now (table .entry)) (now (literals .entry)) (tree (now (path .entry)) link)) active (rows (now (table .entry))) (now (states .entry)) (now (states .exit)) ⌝ }
+{
+    let row = link - 1;
+    let first = first_link(path, row);
+    let second = second_link(path, row);
+    let n = row_count(table);
+    decide(table, path, literals, first, active, states);
+    recast(states, n, choose(any, active + 1, active), active + 2);
+    decide(table, path, literals, second, active + 2, states);
+    recast(states, n, active + 2, active);
+    recast(states, n, active + 3, active + 1);
+}
+
+// Decides a not: the rows where its operand holds and those where it does not are exchanged.
+fn decide_not(
+    table: &[u32],
+    path: &[u32],
+    literals: &[f64],
+    link: usize,
+    active: u16,
+    states: &mut [u16],
+)
+    requires { ⌜ Ready (now table) link ⌝ ∗ ⌜ (0 < link) × (active + 2 * link ≤ 1000) × (length (now states) ≡ mostRows) ⌝ ∗ ⌜ field (now path) (link - 1) 0 ≡ 18 ⌝ ∗ ⌜ Bounded (rows (now table)) active (now states) ⌝ }
+    ensures { λ _. ⌜ Sieved (true-at (now (table .entry)) (now (literals .entry)) (tree (now (path .entry)) link)) active (rows (now (table .entry))) (now (states .entry)) (now (states .exit)) ⌝ }
+{
+    let first = first_link(path, link - 1);
+    decide(table, path, literals, first, active, states);
+    exchange(states, row_count(table), active);
+}
+
+// Takes one step back: from the marked nodes that pass the test and hold to those whose axis they are on.
+fn step_back(
+    table: &[u32],
+    path: &[u32],
+    literals: &[f64],
+    link: usize,
+    axis: usize,
+    test: usize,
+    marks: &mut [bool],
+    next: &mut [bool],
+    states: &mut [u16],
+    seen: &mut [bool],
+)
+    requires { ⌜ Ready (now table) link ⌝ ∗ ⌜ (length (now marks) ≡ mostRows) × (length (now next) ≡ mostRows) × (length (now states) ≡ mostRows) × (length (now seen) ≡ mostRows) ⌝ }
+    ensures { λ _. ⌜ LedBy (now (table .entry)) (now (literals .entry)) (tree (now (path .entry)) link) axis test (now (marks .entry)) (now (marks .exit)) ⌝ }
+{
+    sift(table, test, marks, next);
+    narrow(table, path, literals, link, next, states);
+    let inverse = inverse_axis(axis);
+    reach(table, inverse, next, marks, seen);
+}
+
+// Takes the chain of steps that a link names backwards, the last of them first: from the marked nodes to those from which it
+// leads to one of them.
+fn back(
+    table: &[u32],
+    path: &[u32],
+    literals: &[f64],
+    link: usize,
+    marks: &mut [bool],
+    next: &mut [bool],
+    states: &mut [u16],
+    seen: &mut [bool],
+)
+    requires { ⌜ Ready (now table) link ⌝ ∗ ⌜ (length (now marks) ≡ mostRows) × (length (now next) ≡ mostRows) × (length (now states) ≡ mostRows) × (length (now seen) ≡ mostRows) ⌝ }
+    ensures { λ _. ⌜ Led (now (table .entry)) (now (literals .entry)) (tree (now (path .entry)) link) (now (marks .entry)) (now (marks .exit)) ⌝ }
+{
+    if link == 0 {
+        return;
+    }
+    let row = link - 1;
+    let tests = second_link(path, row);
+    let axis = index_or_axis(path, row);
+    let test = test_at(path, row);
+    step_back(
+        table,
+        path,
+        literals,
+        tests,
+        axis,
+        test,
+        marks,
+        next,
+        states,
+        seen,
+    );
+    let before = first_link(path, row);
+    back(table, path, literals, before, marks, next, states, seen);
+}
+
+// Decides for the active rows whether the chain of steps that a link names leads from them to any node: backwards from all.
+fn decide_back(
+    table: &[u32],
+    path: &[u32],
+    literals: &[f64],
+    link: usize,
+    active: u16,
+    states: &mut [u16],
+)
+    requires { ⌜ Ready (now table) link ⌝ ∗ ⌜ (active ≤ 1000) × (length (now states) ≡ mostRows) ⌝ }
+    ensures { λ _. ⌜ Sieved (backs (now (table .entry)) (now (literals .entry)) (tree (now (path .entry)) link) (λ z. true)) active (rows (now (table .entry))) (now (states .entry)) (now (states .exit)) ⌝ }
+{
+    let mut marks = [true; MOST_ROWS];
+    let mut next = [false; MOST_ROWS];
+    let mut own = [0u16; MOST_ROWS];
+    let mut seen = [false; MOST_ROWS];
+    back(
+        table,
+        path,
+        literals,
+        link,
+        &mut marks,
+        &mut next,
+        &mut own,
+        &mut seen,
+    );
+    settle(states, &marks, row_count(table), active);
+}
+
+// Decides an existence: of an absolute path once for all rows, of a relative path backwards, or row by row where a step counts.
+fn decide_path(
+    table: &[u32],
+    path: &[u32],
+    literals: &[f64],
+    link: usize,
+    active: u16,
+    states: &mut [u16],
+)
+    requires { ⌜ Ready (now table) link ⌝ ∗ ⌜ (0 < link) × (active ≤ 1000) × (length (now states) ≡ mostRows) ⌝ ∗ ⌜ field (now path) (link - 1) 0 ≡ 20 ⌝ }
+    ensures { λ _. ⌜ Sieved (true-at (now (table .entry)) (now (literals .entry)) (tree (now (path .entry)) link)) active (rows (now (table .entry))) (now (states .entry)) (now (states .exit)) ⌝ }
+{
+    let held = first_link(path, link - 1);
+    if held == 0 {
+        decide_each(table, path, literals, link, active, states);
+        return;
+    }
+    let top = held - 1;
+    let op = field_at(path, top, 0);
+    if op == 23 {
+        let k = tally(table, path, literals, held, 0);
+        settle_all(states, row_count(table), active, below(0, k));
+        return;
+    }
+    let steps = first_link(path, top);
+    if counts(path, steps) {
+        decide_each(table, path, literals, link, active, states);
+        return;
+    }
+    decide_back(table, path, literals, steps, active, states);
+}
+
+// Decides the truth that a link names for the rows whose state is active: it stays where the truth holds, and becomes one
+// more where it does not.
+fn decide(
+    table: &[u32],
+    path: &[u32],
+    literals: &[f64],
+    link: usize,
+    active: u16,
+    states: &mut [u16],
+)
+    requires { ⌜ Ready (now table) link ⌝ ∗ ⌜ (active + 2 * link ≤ 1000) × (length (now states) ≡ mostRows) ⌝ ∗ ⌜ Bounded (rows (now table)) active (now states) ⌝ }
+    ensures { λ _. ⌜ Sieved (true-at (now (table .entry)) (now (literals .entry)) (tree (now (path .entry)) link)) active (rows (now (table .entry))) (now (states .entry)) (now (states .exit)) ⌝ }
+{
+    if link == 0 {
+        decide_each(table, path, literals, link, active, states);
+        return;
+    }
+    let op = field_at(path, link - 1, 0);
+    match op {
+        16 => decide_pair(table, path, literals, link, false, active, states),
+        17 => decide_pair(table, path, literals, link, true, active, states),
+        18 => decide_not(table, path, literals, link, active, states),
+        20 => decide_path(table, path, literals, link, active, states),
+        _ => decide_each(table, path, literals, link, active, states),
+    }
+}
+
+// Of the marked nodes those stay marked at which the predicates of the chain that a link names hold, whatever their position.
+fn narrow(
+    table: &[u32],
+    path: &[u32],
+    literals: &[f64],
+    link: usize,
+    marks: &mut [bool],
+    states: &mut [u16],
+)
+    requires { ⌜ Ready (now table) link ⌝ ∗ ⌜ (length (now marks) ≡ mostRows) × (length (now states) ≡ mostRows) ⌝ }
+    ensures { λ _. ⌜ Narrowed (now (table .entry)) (now (literals .entry)) (tree (now (path .entry)) link) (now (marks .entry)) (now (marks .exit)) ⌝ }
+{
+    if link == 0 {
+        return;
+    }
+    let row = link - 1;
+    let before = first_link(path, row);
+    narrow(table, path, literals, before, marks, states);
+    let held = second_link(path, row);
+    let n = row_count(table);
+    enter(marks, states, n);
+    decide(table, path, literals, held, 2, states);
+    leave(states, marks, n);
+}
+
+// Takes one step that does not count from all marked nodes at once.
+fn stride(
+    table: &[u32],
+    path: &[u32],
+    literals: &[f64],
+    link: usize,
+    axis: usize,
+    test: usize,
+    marks: &mut [bool],
+    next: &mut [bool],
+    states: &mut [u16],
+    seen: &mut [bool],
+)
+    requires { ⌜ Ready (now table) link ⌝ ∗ ⌜ (length (now marks) ≡ mostRows) × (length (now next) ≡ mostRows) × (length (now states) ≡ mostRows) × (length (now seen) ≡ mostRows) ⌝ ∗ ⌜ turning.counting (tree (now path) link) ≡ false ⌝ }
+    ensures { λ _. ⌜ listed (now (table .entry)) (now (marks .exit)) ≡ Meaning.union (now (table .entry)) (stepTo (now (table .entry)) (now (literals .entry)) (now (path .entry)) link axis test) (listed (now (table .entry)) (now (marks .entry))) ⌝ }
+{
+    reach(table, axis, marks, next, seen);
+    sift(table, test, next, marks);
+    narrow(table, path, literals, link, marks, states);
+}
+
 // Takes the chain of steps that a link names from the marked nodes, the first of them first, and marks what it reaches.
 fn walk(
     table: &[u32],
@@ -165,8 +455,10 @@ fn walk(
     marks: &mut [bool],
     next: &mut [bool],
     list: &mut [u32],
+    states: &mut [u16],
+    seen: &mut [bool],
 )
-    requires { ⌜ Ready (now table) link ⌝ ∗ ⌜ (length (now marks) ≡ mostRows) × (length (now next) ≡ mostRows) × (length (now list) ≡ mostRows) ⌝ }
+    requires { ⌜ Ready (now table) link ⌝ ∗ ⌜ (length (now marks) ≡ mostRows) × (length (now next) ≡ mostRows) × (length (now list) ≡ mostRows) × (length (now states) ≡ mostRows) × (length (now seen) ≡ mostRows) ⌝ }
     ensures { λ _. ⌜ listed (now (table .entry)) (now (marks .exit)) ≡ Meaning.walk (now (table .entry)) (now (literals .entry)) (tree (now (path .entry)) link) (listed (now (table .entry)) (now (marks .entry))) ⌝ }
 {
     if link == 0 {
@@ -174,12 +466,37 @@ fn walk(
     }
     let last = link - 1;
     let before = first_link(path, last);
-    walk(table, path, literals, before, marks, next, list);
+    walk(
+        table,
+        path,
+        literals,
+        before,
+        marks,
+        next,
+        list,
+        states,
+        seen,
+    );
     let tests = second_link(path, last);
     let axis = index_or_axis(path, last);
     let test = test_at(path, last);
-    step(table, path, literals, tests, axis, test, marks, next, list);
-    copy_marks(next, marks);
+    if counting(path, tests) {
+        step(table, path, literals, tests, axis, test, marks, next, list);
+        copy_marks(next, marks);
+        return;
+    }
+    stride(
+        table,
+        path,
+        literals,
+        tests,
+        axis,
+        test,
+        marks,
+        next,
+        states,
+        seen,
+    );
 }
 
 // Marks what the path that a link names selects from a node.
@@ -203,7 +520,19 @@ pub fn select(
     let steps = first_link(path, top);
     let mut next = [false; MOST_ROWS];
     let mut list = [0u32; MOST_ROWS];
-    walk(table, path, literals, steps, marks, &mut next, &mut list);
+    let mut states = [0u16; MOST_ROWS];
+    let mut seen = [false; MOST_ROWS];
+    walk(
+        table,
+        path,
+        literals,
+        steps,
+        marks,
+        &mut next,
+        &mut list,
+        &mut states,
+        &mut seen,
+    );
 }
 
 // How many nodes the path that a link names selects from a node.

@@ -1,5 +1,7 @@
 // A set of nodes as marks: mark y says whether node y is in the set. Lists of nodes are the marked rows, ascending.
+use basics::both;
 use basics::wide;
+use table::axes::passes_test;
 use table::row_count;
 ghost use mathlib.Core.Path.{_≡_};
 ghost use mathlib.Core.Bool.{false, _||_};
@@ -11,6 +13,7 @@ ghost use Rattle.meaning.specs.Table.{rows, mostRows};
 ghost use Rattle.meaning.specs.Rows.{opOf};
 ghost use Rattle.meaning.specs.Meaning.{startOf};
 ghost use Rattle.meaning.proofs.Marks.{listed};
+ghost use Rattle.select.specs.Sets.{Sifted};
 
 pub fn clear_marks(marks: &mut [bool])
     ensures { λ _. ⌜ ((y : ℕ) → getD (now (marks .exit)) y false ≡ false) ⌝ }
@@ -57,6 +60,19 @@ pub fn copy_marks(from: &[bool], to: &mut [bool])
     let mut i = 0;
     while i < to.len() {
         to[i] = from[i];
+        i += 1;
+    }
+}
+
+// Of the marked rows those that pass the test.
+pub fn sift(table: &[u32], test: usize, from: &[bool], to: &mut [bool])
+    requires { ⌜ (rows (now table) ≤ mostRows) × (rows (now table) ≤ length (now from)) × (rows (now table) ≤ length (now to)) ⌝ }
+    ensures { λ _. ⌜ Sifted (now (table .entry)) test (now (from .entry)) (now (to .exit)) ⌝ }
+{
+    let n = row_count(table);
+    let mut i = 0;
+    while i < n {
+        to[i] = both(from[i], passes_test(table, test, i));
         i += 1;
     }
 }

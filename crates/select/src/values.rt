@@ -36,7 +36,7 @@ fn number_of(v: Value) -> f64
     }
 }
 
-fn truth_of(v: Value) -> bool
+pub fn truth_of(v: Value) -> bool
     ensures { λ r. ⌜ r ≡ truthOf v ⌝ }
 {
     match v {

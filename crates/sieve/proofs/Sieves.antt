@@ -153,6 +153,11 @@ module _ (active n : ℕ) (f : ℕ → Bool) (entry decided : List ℕ) (low : B
     unfolding Recast Sieved Became Bounded
     or-sieved up y l = rw (failing y l, holding y l, second y l, up y l, first y l) (or-of active (state entry y) (low y l) (f y) (g y))
 
+    -- the two under one head: an or where any, else an and
+    pub pair-sieved : (any : Bool) → Recast n (cond any (active + 1) active) (active + 2) decided raised → Sieved (λ y. cond any (f y || g y) (f y && g y)) active n entry exit
+    pair-sieved true up = or-sieved up
+    pair-sieved false up = and-sieved up
+
   -- the rows where it holds and those where it does not are exchanged
   pub not-sieved : (exit : List ℕ) → Exchanged n active decided exit → Sieved (λ y. not (f y)) active n entry exit
   unfolding Exchanged Sieved Became Bounded

@@ -55,6 +55,17 @@ pub fn settle(states: &mut [u16], marks: &[bool], n: usize, active: u16)
     }
 }
 
+// Where a truth that is the same for every row does not hold each active state among the first n becomes active + 1.
+pub fn settle_all(states: &mut [u16], n: usize, active: u16, truth: bool)
+    requires { ⌜ n ≤ length (now states) ⌝ ∗ ⌜ active < 65535 ⌝ }
+    ensures { λ _. ⌜ Sieved (λ y. truth) active n (now (states .entry)) (now (states .exit)) ⌝ }
+{
+    if truth {
+        return;
+    }
+    recast(states, n, active, active + 1);
+}
+
 // The first n rows are active at the first level where they are marked.
 pub fn enter(marks: &[bool], states: &mut [u16], n: usize)
     requires { ⌜ (n ≤ length (now states)) × (n ≤ length (now marks)) ⌝ }

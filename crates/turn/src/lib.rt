@@ -9,6 +9,7 @@ use path::counting::counting;
 use path::field_at;
 use path::first_link;
 use path::index_or_axis;
+use path::inverse_axis;
 use path::row_count;
 use path::second_link;
 use path::test_at;
@@ -21,7 +22,7 @@ ghost use lib.ListN.{length, drop, set};
 ghost use lib.Seq.{sets};
 ghost use Rattle.meaning.specs.Rows.{opOf, opAt, code};
 ghost use Rattle.meaning.specs.Tree.{tree, indexOrAxis, testAt};
-ghost use Rattle.meaning.specs.Turning.{steps, firstCounting, inverseOf, predicates, test, weight, link, written};
+ghost use Rattle.meaning.specs.Turning.{steps, firstCounting, predicates, test, weight, link, written};
 ghost use Rattle.meaning.specs.Turning as turn_specs;
 ghost use Rattle.meaning.specs.Answers.{turning, turnedRows, turnedOutput};
 ghost use Rattle.turn.specs.Parts.{Room, Turnable, stepRows, chain};
@@ -69,25 +70,6 @@ fn steps_of(path: &[u32], last: usize) -> Steps
     Steps {
         count: n,
         first: first_of(before.first, own, n),
-    }
-}
-
-// 0 with itself, an odd axis with the one above it, an even one with the one below.
-fn inverse_axis(axis: usize) -> usize
-    ensures { λ r. ⌜ (r ≡ inverseOf axis) × (r ≤ 10) ⌝ }
-{
-    match axis {
-        1 => 2,
-        2 => 1,
-        3 => 4,
-        4 => 3,
-        5 => 6,
-        6 => 5,
-        7 => 8,
-        8 => 7,
-        9 => 10,
-        10 => 9,
-        _ => 0,
     }
 }
 

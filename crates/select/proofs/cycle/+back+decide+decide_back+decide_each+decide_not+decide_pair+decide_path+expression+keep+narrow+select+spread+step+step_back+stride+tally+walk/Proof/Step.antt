@@ -3,17 +3,18 @@
 -- Assumes nothing.
 use Prim.Native.Nat.{ℕ, _+_, _-_, _≤_}
 use mathlib.Core.Path.{_≡_, ap, _∙_}
-use native.Mathlib.Omega.{arith}
-use borrow.Author.Needs.{needs}
 use mathlib.Core.Logic.{⊎-elim}
-use native.Mathlib.Numerals.{add-one-le}
 use lib.ListN.{length}
+use native.Mathlib.Omega.{arith}
+use native.Mathlib.Numerals.{add-one-le}
+use borrow.Author.Needs.{needs}
 use Rattle.meaning.specs.Table.{rows, mostRows}
 use Rattle.meaning.proofs.Marks.{Reached, reached-start, reached-skip, reached-more, reached-done}
 use Rattle.meaning.proofs.Evaluation.{stepTo}
+use Rattle.select.proofs.Links.{lower}
 use Rattle.select.proofs.cycle.step.Reads as reads
-use Rattle.select.proofs.cycle.+expression+keep+select+spread+step+tally+walk.Lts-step as lts
-use Rattle.select.proofs.cycle.+expression+keep+select+spread+step+tally+walk.Proof.Shared.{step-at as given, step-calls as calls}
+use Rattle.select.proofs.cycle.+back+decide+decide_back+decide_each+decide_not+decide_pair+decide_path+expression+keep+narrow+select+spread+step+step_back+stride+tally+walk.Lts-step as lts
+use Rattle.select.proofs.cycle.+back+decide+decide_back+decide_each+decide_not+decide_pair+decide_path+expression+keep+narrow+select+spread+step+step_back+stride+tally+walk.Proof.Shared.{step-at as given, step-calls as calls}
 
 abbrev pub Inv-loop : lts.InvT-loop
 Inv-loop table path literals link axis test marks next₀ list₀ n x₀ next list x =
@@ -46,7 +47,11 @@ module _ (t : ℕ) where
   shared-slice-read-if1 c = search needs
 
   pub spread-requires : lts.Need-spread-requires (calls t) (given t) reads.Post Inv-loop μ-loop
-  spread-requires c κs = search needs
+  spread-requires c κs =
+      let in-loop = c .before .before .before .before in
+      let at-loop = in-loop .before in
+      let start = at-loop .before .before .before .before .before .before .before .before .before .before .before .before in
+      (omega (arith, start .pre), (lower _ _ _ (start .pre .1 .0) (omega (arith, start .pre)), (omega (arith, at-loop .loop .inv, in-loop .loop-test .taken), omega (arith, at-loop .loop .inv))))
 
   pub add-x : lts.Need-add-x (calls t) (given t) reads.Post Inv-loop μ-loop
   add-x c = search needs

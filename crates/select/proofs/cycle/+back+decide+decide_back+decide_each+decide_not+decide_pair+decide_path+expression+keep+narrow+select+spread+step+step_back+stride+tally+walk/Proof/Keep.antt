@@ -3,17 +3,18 @@
 -- Assumes nothing.
 use Prim.Native.Nat.{ℕ, _-_, _<_, _≤_}
 use mathlib.Core.Path.{_≡_, ap, _∙_}
-use native.Mathlib.Omega.{arith}
-use borrow.Author.Needs.{needs}
 use mathlib.Core.Logic.{⊎-elim}
 use lib.ListN.{length, length-set}
 use lib.Seq.{length-take-le}
+use native.Mathlib.Omega.{arith}
+use borrow.Author.Needs.{needs}
 use Rattle.meaning.specs.Table.{mostRows}
 use Rattle.meaning.proofs.Filters.{Kept, kept-start, kept-skip, kept-more, kept-done}
 use Rattle.meaning.proofs.Evaluation.{keptBy, kept-by, filtered-none, filtered-row}
+use Rattle.select.proofs.Links.{lower}
 use Rattle.select.proofs.cycle.keep.Reads as reads
-use Rattle.select.proofs.cycle.+expression+keep+select+spread+step+tally+walk.Lts-keep as lts
-use Rattle.select.proofs.cycle.+expression+keep+select+spread+step+tally+walk.Proof.Shared.{keep-at as given, keep-calls as calls}
+use Rattle.select.proofs.cycle.+back+decide+decide_back+decide_each+decide_not+decide_pair+decide_path+expression+keep+narrow+select+spread+step+step_back+stride+tally+walk.Lts-keep as lts
+use Rattle.select.proofs.cycle.+back+decide+decide_back+decide_each+decide_not+decide_pair+decide_path+expression+keep+narrow+select+spread+step+step_back+stride+tally+walk.Proof.Shared.{keep-at as given, keep-calls as calls}
 
 abbrev pub Inv-loop : lts.InvT-loop
 Inv-loop table path literals link list₀ n row k test size m₀ i₀ list m i =
@@ -33,7 +34,11 @@ module _ (t : ℕ) where
   first-link-requires c κs = search needs
 
   pub keep-requires : lts.Need-keep-requires (calls t) (given t) reads.Post Inv-loop μ-loop
-  keep-requires c κs = search needs
+  keep-requires c κs =
+      let first-link = c .before in
+      let else1 = first-link .before in
+      let start = else1 .before .before .before .before .before in
+      (omega (arith, start .pre, first-link .first-link .ensures, else1 .if1 .left), (lower _ _ _ (start .pre .1 .0) (omega (arith, start .pre, first-link .first-link .ensures, else1 .if1 .left)), (omega (arith, start .pre), omega (arith, start .pre))))
 
   pub second-link-requires : lts.Need-second-link-requires (calls t) (given t) reads.Post Inv-loop μ-loop
   second-link-requires c κs = search needs
@@ -60,7 +65,11 @@ module _ (t : ℕ) where
   wide-requires c κs = search needs
 
   pub expression-requires : lts.Need-expression-requires (calls t) (given t) reads.Post Inv-loop μ-loop
-  expression-requires c κs = search needs
+  expression-requires c κs =
+      let second-link = c .before .before .before .before .before .before in
+      let else1 = second-link .before .before .before .before .before .before in
+      let start = else1 .before .before .before .before .before in
+      (omega (arith, start .pre, second-link .second-link .ensures, else1 .if1 .left), lower _ _ _ (start .pre .1 .0) (omega (arith, start .pre, second-link .second-link .ensures, else1 .if1 .left)))
 
   pub keeps-requires : lts.Need-keeps-requires (calls t) (given t) reads.Post Inv-loop μ-loop
   keeps-requires c κs = search needs

@@ -1,10 +1,10 @@
--- `turn::inverse_axis` meets its contract: each axis by its number, computed; a number that is none of them is past the table.
+-- `path::inverse_axis` meets its contract: each axis by its number, computed; a number that is none of them is past the table.
 -- Assumes nothing.
 use borrow.Author.Needs.{needs}
 use Rattle.meaning.specs.Turning.{inverseOf}
 use Rattle.meaning.proofs.Written.{inverse-rest}
-use Rattle.turn.proofs.inverse_axis.Statement.{statement}
-use Rattle.turn.proofs.inverse_axis.Tie as tie
+use Rattle.path.proofs.inverse_axis.Statement.{statement}
+use Rattle.path.proofs.inverse_axis.Tie as tie
 
 returns : tie.Need-returns
 unfolding inverseOf

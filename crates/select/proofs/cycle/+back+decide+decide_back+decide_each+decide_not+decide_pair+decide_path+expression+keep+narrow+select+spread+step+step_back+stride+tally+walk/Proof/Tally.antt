@@ -1,10 +1,10 @@
 -- `tally`: the marks that `select` leaves are counted.
 -- Assumes nothing.
-use Prim.Native.Nat.{ℕ, _-_}
+use Prim.Native.Nat.{ℕ}
 use borrow.Author.Needs.{needs}
 use Rattle.select.proofs.cycle.tally.Reads as reads
-use Rattle.select.proofs.cycle.+expression+keep+select+spread+step+tally+walk.Lts-tally as lts
-use Rattle.select.proofs.cycle.+expression+keep+select+spread+step+tally+walk.Proof.Shared.{tally-at as given, tally-calls as calls}
+use Rattle.select.proofs.cycle.+back+decide+decide_back+decide_each+decide_not+decide_pair+decide_path+expression+keep+narrow+select+spread+step+step_back+stride+tally+walk.Lts-tally as lts
+use Rattle.select.proofs.cycle.+back+decide+decide_back+decide_each+decide_not+decide_pair+decide_path+expression+keep+narrow+select+spread+step+step_back+stride+tally+walk.Proof.Shared.{tally-at as given, tally-calls as calls}
 
 module _ (t : ℕ) where
   pub slice-aggregate-select : lts.Need-slice-aggregate-select (calls t) (given t) reads.Post

@@ -1,11 +1,11 @@
 -- `expression`: one answer for each way that an op takes its operands, all by the law that a value depends only on what its op takes.
 -- Assumes nothing.
-use Prim.Native.Nat.{ℕ, _-_}
+use Prim.Native.Nat.{ℕ}
 use borrow.Author.Needs.{needs}
 use Rattle.meaning.proofs.Evaluation.{value-none, value-over-path, value-leaf, value-one, value-two}
 use Rattle.select.proofs.cycle.expression.Reads as reads
-use Rattle.select.proofs.cycle.+expression+keep+select+spread+step+tally+walk.Lts-expression as lts
-use Rattle.select.proofs.cycle.+expression+keep+select+spread+step+tally+walk.Proof.Shared.{expression-at as given, expression-calls as calls}
+use Rattle.select.proofs.cycle.+back+decide+decide_back+decide_each+decide_not+decide_pair+decide_path+expression+keep+narrow+select+spread+step+step_back+stride+tally+walk.Lts-expression as lts
+use Rattle.select.proofs.cycle.+back+decide+decide_back+decide_each+decide_not+decide_pair+decide_path+expression+keep+narrow+select+spread+step+step_back+stride+tally+walk.Proof.Shared.{expression-at as given, expression-calls as calls}
 
 module _ (t : ℕ) where
   pub returns : lts.Need-returns (calls t) (given t) reads.Post
