@@ -41,8 +41,9 @@ module _ (t : ℕ) where
   pub counting-requires : lts.Need-counting-requires (calls t) (given t) reads.Post
   counting-requires c κs =
       let second-link = c .before .before in
-      let start = second-link .before .before .before .before .before .before .before .before .before .before .before .before .before .before .before .before .before .before .before .before .before .before .before .before .before .before .before in
-      omega (arith, start .pre .1 .0 .low, second-link .second-link .ensures)
+      let first-link = second-link .before .before .before .before .before .before .before .before .before .before .before .before .before .before .before .before .before in
+      let start = first-link .before .before .before .before .before .before .before .before .before .before in
+      omega (arith, start .pre .1 .0 .low, first-link .first-link .ensures, second-link .second-link .ensures)
 
   pub step-requires : lts.Need-step-requires (calls t) (given t) reads.Post
   step-requires c κs =
