@@ -3,8 +3,10 @@ use crate::field_at;
 use crate::fields::is_number;
 use crate::first_link;
 use crate::second_link;
+use basics::both;
 use basics::either;
 use basics::same;
+ghost use mathlib.Core.Bool.{false};
 ghost use mathlib.Core.Path.{_≡_};
 ghost use Prim.Native.Nat.{_≤_};
 ghost use Rattle.meaning.specs.Rows.{opOf};
@@ -83,4 +85,33 @@ pub fn counts(path: &[u32], link: usize) -> bool
     let before = counts(path, first_link(path, row));
     let held = second_link(path, row);
     either(before, counting(path, held))
+}
+
+// Does anything below a link need a look at each node: a count of a path, or a step that counts?
+fn is_heavy(path: &[u32], link: usize) -> bool
+    requires { ⌜ link ≤ 256 ⌝ }
+{
+    if link == 0 {
+        return false;
+    }
+    let row = link - 1;
+    let op = field_at(path, row, 0);
+    if op == 21 {
+        return true;
+    }
+    let second = second_link(path, row);
+    if both(same(op, 24), counting(path, second)) {
+        return true;
+    }
+    let a = is_heavy(path, first_link(path, row));
+    either(a, is_heavy(path, second))
+}
+
+// Is a chain of steps only to be walked forwards? Backwards no step may count, and where anything in it needs a look at each
+// node, looking at all nodes would cost more than at those that the chain reaches.
+pub fn goes_forward(path: &[u32], link: usize) -> bool
+    requires { ⌜ link ≤ 256 ⌝ }
+    ensures { λ r. ⌜ (r ≡ false → turning.counts (tree (now (path .entry)) link) ≡ false) ⌝ }
+{
+    either(counts(path, link), is_heavy(path, link))
 }

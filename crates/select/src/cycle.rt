@@ -22,7 +22,7 @@ use basics::wide;
 use meaning::Context;
 use meaning::Value;
 use path::counting::counting;
-use path::counting::counts;
+use path::counting::goes_forward;
 use path::field_at;
 use path::first_link;
 use path::index_or_axis;
@@ -341,7 +341,8 @@ fn decide_back(
     settle(states, &marks, row_count(table), active);
 }
 
-// Decides an existence: of an absolute path once for all rows, of a relative path backwards, or row by row where a step counts.
+// Decides an existence: of an absolute path once for all rows, of a relative path backwards, or row by row where a step counts
+// or going back would look at more nodes than it must.
 fn decide_path(
     table: &[u32],
     path: &[u32],
@@ -366,7 +367,7 @@ fn decide_path(
         return;
     }
     let steps = first_link(path, top);
-    if counts(path, steps) {
+    if goes_forward(path, steps) {
         decide_each(table, path, literals, link, active, states);
         return;
     }

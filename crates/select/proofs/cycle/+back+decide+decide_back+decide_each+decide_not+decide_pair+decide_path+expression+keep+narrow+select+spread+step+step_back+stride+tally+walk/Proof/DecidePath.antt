@@ -1,6 +1,7 @@
 -- `decide_path`: an absolute path selects the same from every node, and a relative one whose steps do not count is led back to.
 -- Assumes nothing.
 use Prim.Native.Nat.{ℕ}
+use mathlib.Core.Path.{refl}
 use native.Mathlib.Omega.{arith}
 use borrow.Author.Needs.{needs}
 use Rattle.select.proofs.Sets.{absolute-decided, relative-decided}
@@ -62,8 +63,8 @@ module _ (t : ℕ) where
   pub first-link-requires-2 : lts.Need-first-link-requires-2 (calls t) (given t) reads.Post
   first-link-requires-2 c κs = search needs
 
-  pub counts-requires : lts.Need-counts-requires (calls t) (given t) reads.Post
-  counts-requires c κs = search needs
+  pub goes-forward-requires : lts.Need-goes-forward-requires (calls t) (given t) reads.Post
+  goes-forward-requires c κs = search needs
 
   pub decide-each-requires-2 : lts.Need-decide-each-requires-2 (calls t) (given t) reads.Post
   decide-each-requires-2 c κs = search needs
@@ -89,11 +90,11 @@ module _ (t : ℕ) where
   returns-4 c =
       let decide-back = c .before .before in
       let else3 = decide-back .before .before in
-      let counts = else3 .before in
-      let first-link2 = counts .before in
+      let goes-forward = else3 .before in
+      let first-link2 = goes-forward .before in
       let else2 = first-link2 .before in
       let field-at = else2 .before in
       let else1 = field-at .before in
       let first-link = else1 .before in
       let start = first-link .before .before .before .before .before in
-      relative-decided _ _ _ _ (λ e. omega (arith, start .pre)) (start .pre .1 .1 .1) _ (first-link .first-link .ensures .0) (else1 .if1 .left) _ (field-at .field-at .ensures .0) _ _ _ (else2 .if2 .left) _ (first-link2 .first-link2 .ensures .0) _ (counts .counts .ensures) (else3 .if3 .left) (decide-back .decide-back .ensures)
+      relative-decided _ _ _ _ (λ e. omega (arith, start .pre)) (start .pre .1 .1 .1) _ (first-link .first-link .ensures .0) (else1 .if1 .left) _ (field-at .field-at .ensures .0) _ _ _ (else2 .if2 .left) _ (first-link2 .first-link2 .ensures .0) _ refl (goes-forward .goes-forward .ensures (else3 .if3 .left)) (decide-back .decide-back .ensures)

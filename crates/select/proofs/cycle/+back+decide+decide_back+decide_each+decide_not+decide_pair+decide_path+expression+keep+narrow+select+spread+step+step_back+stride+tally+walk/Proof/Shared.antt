@@ -58,7 +58,7 @@ use Rattle.select.proofs.cycle.+back+decide+decide_back+decide_each+dec
 use Rattle.basics.proofs.below.Reads as below-reads
 use Rattle.basics.proofs.wide.Reads as wide-reads
 use Rattle.path.proofs.counting.counting.Reads as counting-reads
-use Rattle.path.proofs.counting.counts.Reads as counts-reads
+use Rattle.path.proofs.counting.goes_forward.Reads as goes-forward-reads
 use Rattle.path.proofs.field_at.Reads as field-at-reads
 use Rattle.path.proofs.first_link.Reads as first-link-reads
 use Rattle.path.proofs.index_or_axis.Reads as index-or-axis-reads
@@ -353,8 +353,8 @@ decide-path-calls t = (
   below-reads.Learnt,
   settle-all-reads.Asked,
   settle-all-reads.Learnt,
-  counts-reads.Asked,
-  counts-reads.Learnt,
+  goes-forward-reads.Asked,
+  goes-forward-reads.Learnt,
   decide-back-below t,
   decide-back.Post,
 )
