@@ -1,12 +1,11 @@
 -- Laws of the axes, with the axis as a parameter: the inverse-axis law, ancestors by the chain of parents,
 -- and an axis's candidates: below the row count, and strictly monotone along the axis.
 -- Assumes nothing.
-use Prim.Native.Nat.{ℕ, zero, suc, _+_, _-_, _*_, _/_, _<_, _≤_}
-use mathlib.Core.Path.{_≡_, refl, sym, subst, ap, _∙_}
-use mathlib.Core.Logic.{_⊎_, inl, inr}
-use mathlib.Core.Bool.{Bool, true, false, _&&_, _||_, not, cond}
+use Prim.Native.Nat.{ℕ, zero, suc, _<_, _≤_}
+use mathlib.Core.Path.{_≡_, refl, sym, subst, _∙_}
+use mathlib.Core.Logic.{inl, inr}
+use mathlib.Core.Bool.{Bool, true, false, _&&_, _||_, cond}
 use mathlib.Core.List.{List, [], _∷_, _++_}
-use lib.ListN.{length, getD}
 use borrow.Author.Tests.{lt-ltb}
 use lib.Dec.{T, leb, ltb, eqb, eqb-refl, ltb→lt, leb→le, eqb→eq, lt→ltb, le→leb}
 use native.Mathlib.Omega.{arith}

@@ -89,12 +89,6 @@ module _ (t : List ℕ) (literals : List Float) where
   unfolding before
   before-by c d e good fit h w = some-below _ _ (rows t) (λ z l. rw (h z l))
 
-  -- what is reached back depends on the good rows alone
-  pub backs-agree : (s : Tree) (f g : ℕ → Bool) → ((z : ℕ) → z < rows t → f z ≡ g z) → (y : ℕ) → y < rows t → backs s f y ≡ backs s g y
-  unfolding backs before
-  backs-agree none f g h y l = h y l
-  backs-agree (node op a b c d) f g h y l = backs-agree a (before c d b f) (before c d b g) (λ w m. some-below _ _ (rows t) (λ z k. rw (h z k))) y l
-
   -- an absolute path selects the same from every node
   pub absolute-anywhere : (op : Op) (s b : Tree) (c d : ℕ) → isAbsolute op ≡ true → (x y : ℕ) → select t literals (node op s b c d) x ≡ select t literals (node op s b c d) y
   unfolding select startOf
@@ -123,22 +117,13 @@ module _ (t : List ℕ) (literals : List Float) where
 -- ---- rows, stated over what code has read of them
 
 module _ (t : List ℕ) (literals : List Float) (p : List ℕ) (l : ℕ) where
-  -- no steps: the good nodes themselves; no predicates: all hold
-  pub backs-none : (good : ℕ → Bool) (y : ℕ) → l ≡ 0 → good y ≡ backs t literals (tree p l) good y
-  unfolding backs
-  backs-none good y e = rw (e, tree-zero p)
-
+  -- no predicates: all hold
   pub ok-none : (y : ℕ) → l ≡ 0 → true ≡ ok t literals (tree p l) y
   unfolding ok
   ok-none y e = rw (e, tree-zero p)
 
   module _ (some-row : (l ≡ 0) → ⊥) (a : ℕ) (is-first : a ≡ firstLink p (l - 1)) where
     module _ (b : ℕ) (is-second : b ≡ secondLink p (l - 1)) where
-      -- a step: one step back, then those before it
-      pub backs-row : (c d : ℕ) → c ≡ indexOrAxis p (l - 1) → d ≡ testAt p (l - 1) → (good : ℕ → Bool) (y : ℕ) → backs t literals (tree p a) (before t literals c d (tree p b) good) y ≡ backs t literals (tree p l) good y
-      unfolding backs
-      backs-row c d e f good y = rw (tree-row p l some-row, ← is-first, ← is-second, ← e, ← f)
-
       -- a predicate: those before it, and its own truth
       pub ok-row : (y : ℕ) → (ok t literals (tree p a) y && true-at t literals (tree p b) y) ≡ ok t literals (tree p l) y
       unfolding ok

@@ -4,7 +4,7 @@ use Prim.Native.Nat.{ℕ, _≤_, _<_}
 use mathlib.Core.Path.{_≡_, refl, sym, subst}
 use mathlib.Core.Logic.{_⊎_, inl, inr}
 use mathlib.Core.Bool.{Bool, true, false, _&&_, _||_, not, true≢false}
-use lib.Dec.{T, leb, ltb, eqb, ltb→lt, leb→le, eqb→eq, lt→ltb, le→leb, nleb→lt, nltb→le, eqb-refl}
+use lib.Dec.{T, ltb, eqb, ltb→lt, leb→le, eqb→eq, lt→ltb, le→leb, nleb→lt, nltb→le, eqb-refl}
 use borrow.Author.Tests.{ltb-true, ltb-false, eqb-true, eqb-false}
 
 pub and-l : (a b : Bool) → T (a && b) → T a

@@ -12,11 +12,10 @@ use lib.Ieee.{Float}
 use native.Mathlib.Omega.{arith}
 use native.Mathlib.Nat.{max-le}
 use native.Mathlib.Numerals.{add-one}
-use borrow.Author.Tests.{le-leb, lt-leb, lt-ltb, le-ltb, ne-eqb, ltb-false, not-false}
+use borrow.Author.Tests.{le-leb, lt-leb, lt-ltb, le-ltb, ne-eqb, not-false}
 use Rattle.meaning.specs.Lists.{upTo, some, lowest}
 use Rattle.meaning.specs.Table.{rows, lengthAllowed, broken, accepted}
 use Rattle.meaning.specs.Rows.{code, opOf, opAt, rowsOf, firstLink, secondLink, links, linkedBelow, isNumber, isTruth, isPath, isStep, isPredicate, isUnknown, mostPathRows, pathLengthAllowed, badLiteralAt, brokenRow}
-use Rattle.meaning.specs.Rows as R
 use Rattle.meaning.specs.Tree.{linked, tree, depth, mostDepth}
 use Rattle.meaning.specs.Answers.{answer, check, tableChecks, tableAnswer, pathChecks, pathAnswer, pathTree}
 use Rattle.meaning.specs.declared.Answer.{Answer}

@@ -6,7 +6,7 @@ use Prim.Native.Nat.{ℕ, zero, suc, _+_, _-_, _*_, _<_, _≤_}
 use mathlib.Core.Path.{_≡_, refl, sym, subst, ap, _∙_}
 use mathlib.Core.Logic.{_⊎_, inl, inr}
 use mathlib.Core.Bool.{Bool, true, false, _&&_, _||_, not, cond}
-use mathlib.Core.List.{List, [], _∷_}
+use mathlib.Core.List.{List}
 use lib.ListN.{length, List·getD-eq-default}
 use lib.Dec.{T, leb, ltb, eqb, eqb→eq, eqb·suc-zero}
 use lib.Ieee.{Float}
@@ -17,7 +17,7 @@ use Rattle.meaning.specs.Table.{rows}
 use Rattle.meaning.specs.Rows.{Op, opOf, opAt, code, fieldsOf, isLiteral, isStep, isPath, isLink, isUnknown, mayMiss, takes, goodTest, goodField, firstLink, secondLink, brokenRow, rowsOf, pathLengthAllowed, mostPathRows, badLiteralAt}
 use Rattle.meaning.specs.Rows as R
 use Rattle.meaning.specs.Tree.{Tree, none, node, indexOrAxis, testAt, tree, depth, mostDepth}
-use Rattle.meaning.specs.Meaning.{select, isAbsolute}
+use Rattle.meaning.specs.Meaning.{isAbsolute}
 use Rattle.meaning.specs.Turning.{inverses, counting, steps, counts, firstCounting, inverseOf, predicates, test, back, turned, weight, written}
 use Rattle.meaning.specs.Answers.{answer, check, pathTree, pathAnswer, selected, countingStep, absolutePath, turning, turnedRows}
 use Rattle.meaning.specs.declared.Answer.{Answer}

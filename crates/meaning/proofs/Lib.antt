@@ -20,6 +20,7 @@ pub mod Numbers
 pub mod Evaluation
 pub mod Outcome
 pub mod Backward
+pub mod Near
 pub mod View
 pub mod Unique
 pub mod Counting

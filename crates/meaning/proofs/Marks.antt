@@ -4,15 +4,15 @@
 use Prim.Native.Nat.{ℕ, zero, suc, _+_, _<_, _≤_}
 use mathlib.Core.Path.{_≡_, refl, sym, ap, _∙_}
 use mathlib.Core.Logic.{inl, inr, ⊎-elim}
-use mathlib.Core.Bool.{Bool, true, false, _&&_, _||_, and-true, and-false, or-false, or-true}
+use mathlib.Core.Bool.{Bool, true, false, _&&_, _||_, and-true, and-false, or-false, or-true, cond}
 use mathlib.Core.List.{List, [], _∷_, _++_, append-nil, append-assoc}
-use lib.ListN.{length, getD, take, drop, set, length-append, List·getD-eq-default}
-use lib.Seq.{take-suc, drop-cons, set-at, getD-set-other, getD-set-same, ext-getD}
-use lib.Dec.{eqb}
+use lib.ListN.{length, getD, replicate, take, drop, set, length-append}
+use lib.Seq.{take-suc, drop-cons, set-at, getD-set-other, getD-set-same}
+use lib.Dec.{eqb, ltb}
 use native.Mathlib.Omega.{arith}
 use native.Mathlib.Nat.{eq-or-lt-of-le}
 use native.Mathlib.Numerals.{add-one}
-use borrow.Author.Tests.{eq-eqb, ne-eqb}
+use borrow.Author.Tests.{eq-eqb, ne-eqb, lt-ltb, le-ltb}
 use Rattle.meaning.specs.Lists.{keep, some, has, upTo}
 use Rattle.meaning.specs.Table.{rows}
 use Rattle.meaning.specs.Meaning.{union}
@@ -36,6 +36,30 @@ keep-nothing (suc n) = keep-append (λ y. false) (upTo n) (n ∷ []) ∙ rw (kee
 -- no marks list no rows
 pub listed-none : (t : List ℕ) (marks : List Bool) → ((y : ℕ) → getD marks y false ≡ false) → listed t marks ≡ []
 listed-none t marks h = listed-by t marks (λ y. false) (λ y l. h y) ∙ keep-nothing (rows t)
+
+-- nothing is marked where all marks begin as false
+pub no-marks : (n y : ℕ) → getD (replicate n false) y false ≡ false
+no-marks zero y = refl
+no-marks (suc n) zero = refl
+no-marks (suc n) (suc y) = no-marks n y
+
+-- one mark where there was none lists that row, if it is one
+module _ (t : List ℕ) (marks : List Bool) (x : ℕ) (clear : (y : ℕ) → getD marks y false ≡ false) where
+  pub listed-one : x < length marks → listed t (set marks x true) ≡ keep (eqb x) (upTo (rows t))
+  listed-one l = listed-by t (set marks x true) (eqb x) (λ y m. elim (eq-or-ne y x) [
+    | inl e ↦ rw (e, eq-eqb x x refl) (getD-set-same marks x true false l)
+    | inr e ↦ rw (ne-eqb x y (λ q. e (sym q))) (getD-set-other marks x y true false e ∙ clear y)
+  ])
+
+  pub listed-outside : rows t ≤ length marks → length marks ≤ x → listed t marks ≡ keep (eqb x) (upTo (rows t))
+  listed-outside l k = listed-by t marks (eqb x) (λ y m. clear y ∙ sym (ne-eqb x y (λ q. absurd (omega arith))))
+
+-- a number that is not i is below i + 1 exactly if it is below i
+past : (y i : ℕ) → ((y ≡ i) → ⊥) → ltb y i ≡ ltb y (i + 1)
+past y i q = elim (lt-or-ge y i) [
+  | inl l ↦ rw (lt-ltb y i l) (sym (lt-ltb y (i + 1) (omega arith)))
+  | inr l ↦ rw (le-ltb y i l) (sym (le-ltb y (i + 1) (omega (arith, q))))
+]
 
 -- ---- what is marked below i
 
@@ -117,38 +141,59 @@ module _ (marks : List Bool) (list₀ : List ℕ) where
   unfolding Listing Counted listed
   listing-done t list m i h n e = rw (← e, ← n) h
 
--- ---- writing each mark
+-- ---- writing each mark, in place
 
--- the first i marks are as g says
-unfoldable pub Wrote : (ℕ → Bool) → List Bool → ℕ → Type 0
-Wrote g marks i = (y : ℕ) → y < i → getD marks y false ≡ g y
+-- the marks below i are as g says, and the others as they were
+unfoldable pub Wrote : (ℕ → Bool) → List Bool → List Bool → ℕ → Type 0
+Wrote g old now i = (y : ℕ) → getD now y false ≡ cond (ltb y i) (g y) (getD old y false)
 
-module _ (g : ℕ → Bool) (marks : List Bool) where
-  pub wrote-start : Wrote g marks 0
+pub wrote-start : (g : ℕ → Bool) (old : List Bool) → Wrote g old old 0
+unfolding Wrote
+wrote-start g old y = rw (le-ltb y 0 (omega arith))
+
+module _ (g : ℕ → Bool) (old now : List Bool) where
+  -- a mark that is not written yet
+  pub wrote-ahead : (i y : ℕ) → Wrote g old now i → i ≤ y → getD now y false ≡ getD old y false
   unfolding Wrote
-  wrote-start y l = absurd (omega arith)
+  wrote-ahead i y h a = h y ∙ rw (le-ltb y i a)
 
-  pub wrote-more : (i : ℕ) (v : Bool) → Wrote g marks i → i < length marks → v ≡ g i → Wrote g (set marks i v) (i + 1)
+  pub wrote-more : (i : ℕ) (v : Bool) → Wrote g old now i → i < length now → v ≡ g i → Wrote g old (set now i v) (i + 1)
   unfolding Wrote
-  wrote-more i v h a e y l = elim (lt-or-ge y i) [
-    | inl k ↦ getD-set-other marks i y v false (λ q. absurd (omega arith)) ∙ h y k
-    | inr k ↦ let q : y ≡ i = omega arith in rw q (getD-set-same marks i v false a ∙ e)
+  wrote-more i v h a e y = elim (eq-or-ne y i) [
+    | inl q ↦ rw (q, lt-ltb i (i + 1) (omega arith)) (getD-set-same now i v false a ∙ e)
+    | inr q ↦ getD-set-other now i y v false q ∙ h y ∙ ap (λ (b : Bool). cond b (g y) (getD old y false)) (past y i q)
   ]
 
-  pub wrote-listed : (t : List ℕ) (i : ℕ) → Wrote g marks i → rows t ≤ i → listed t marks ≡ keep g (upTo (rows t))
+  pub wrote-all : (n i : ℕ) → Wrote g old now i → n ≤ i → (y : ℕ) → y < n → getD now y false ≡ g y
   unfolding Wrote
-  wrote-listed t i h a = listed-by t marks g (λ y l. h y (omega arith))
+  wrote-all n i h a y l = h y ∙ rw (lt-ltb y i (omega arith))
 
-pub wrote-clear : (marks : List Bool) (i : ℕ) → Wrote (λ y. false) marks i → length marks ≤ i → (y : ℕ) → getD marks y false ≡ false
-unfolding Wrote
-wrote-clear marks i h a y = elim (lt-or-ge y i) [
-  | inl k ↦ h y k
-  | inr k ↦ List·getD-eq-default marks false (omega arith)
-]
+  pub wrote-listed : (t : List ℕ) (i : ℕ) → Wrote g old now i → rows t ≤ i → listed t now ≡ keep g (upTo (rows t))
+  wrote-listed t i h a = listed-by t now g (wrote-all (rows t) i h a)
 
-pub wrote-copy : (marks from : List Bool) (i : ℕ) → Wrote (λ y. getD from y false) marks i → length marks ≤ i → length marks ≡ length from → marks ≡ from
-unfolding Wrote
-wrote-copy marks from i h a e = ext-getD false marks from e (λ y k. h y (omega arith))
+-- the same from the last of n marks down
+unfoldable pub WroteDown : (ℕ → Bool) → ℕ → List Bool → List Bool → ℕ → Type 0
+WroteDown g n old now i = (y : ℕ) → y < n → getD now y false ≡ cond (ltb y i) (getD old y false) (g y)
+
+pub down-start : (g : ℕ → Bool) (n : ℕ) (old : List Bool) → WroteDown g n old old n
+unfolding WroteDown
+down-start g n old y l = rw (lt-ltb y n l)
+
+module _ (g : ℕ → Bool) (n : ℕ) (old now : List Bool) where
+  pub down-ahead : (i y : ℕ) → WroteDown g n old now i → y < i → y < n → getD now y false ≡ getD old y false
+  unfolding WroteDown
+  down-ahead i y h a l = h y l ∙ rw (lt-ltb y i a)
+
+  pub down-more : (i : ℕ) (v : Bool) → WroteDown g n old now (i + 1) → i < length now → v ≡ g i → WroteDown g n old (set now i v) i
+  unfolding WroteDown
+  down-more i v h a e y l = elim (eq-or-ne y i) [
+    | inl q ↦ rw (q, le-ltb i i (omega arith)) (getD-set-same now i v false a ∙ e)
+    | inr q ↦ getD-set-other now i y v false q ∙ h y l ∙ ap (λ (b : Bool). cond b (getD old y false) (g y)) (sym (past y i q))
+  ]
+
+  pub down-all : WroteDown g n old now 0 → (y : ℕ) → y < n → getD now y false ≡ g y
+  unfolding WroteDown
+  down-all h y l = h y l ∙ rw (le-ltb y 0 (omega arith))
 
 -- ---- marking what stands in a list
 
@@ -208,23 +253,7 @@ module _ (f : ℕ → List ℕ) (marks : List Bool) where
   unfolding Reached listed union
   reached-done t next x r e b = keep-upTo _ _ (rows t) (λ y l. rw (← e) (r y (omega arith)))
 
--- ---- writing marks downwards, and setting one
-
--- the marks from i to n are as g says
-unfoldable pub WroteDown : (ℕ → Bool) → ℕ → List Bool → ℕ → Type 0
-WroteDown g n m i = (y : ℕ) → i ≤ y → y < n → getD m y false ≡ g y
-
-pub down-start : (g : ℕ → Bool) (n : ℕ) (m : List Bool) → WroteDown g n m n
-unfolding WroteDown
-down-start g n m y h l = absurd (omega arith)
-
-pub down-more : (g : ℕ → Bool) (n : ℕ) (m : List Bool) (i : ℕ) (v : Bool) → WroteDown g n m (i + 1) → i < length m → v ≡ g i → WroteDown g n (set m i v) i
-unfolding WroteDown
-down-more g n m i v h a e y b l =
-    ⊎-elim
-    (λ q. rw q (getD-set-same m i v false a ∙ e))
-    (λ q. getD-set-other m i y v false q ∙ h y (omega arith) l)
-    (eq-or-ne y i)
+-- ---- setting one mark
 
 -- mark p is set where b holds, and stays where it does not
 pub set-if : (m : List Bool) (p : ℕ) (b : Bool) → p < length m → (q : ℕ) → getD (set m p (getD m p false || b)) q false ≡ (getD m q false || (b && eqb p q))

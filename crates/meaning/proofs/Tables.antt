@@ -1,19 +1,18 @@
 -- The shape of an accepted table: what the parent rule says of a row, and that subtrees nest or are disjoint.
 -- Assumes nothing.
-use Prim.Native.Nat.{ℕ, zero, suc, _+_, _-_, _*_, _/_, _<_, _≤_}
-use mathlib.Core.Path.{_≡_, refl, sym, subst}
+use Prim.Native.Nat.{ℕ, zero, suc, _-_, _<_, _≤_}
+use mathlib.Core.Path.{_≡_, sym, subst}
 use mathlib.Core.Logic.{_⊎_, inl, inr}
-use mathlib.Core.Bool.{Bool, true, false, _&&_, _||_, not, cond}
+use mathlib.Core.Bool.{true, false, _&&_, not, cond}
 use mathlib.Core.List.{List}
-use lib.ListN.{length}
-use lib.Dec.{T, leb, ltb, eqb, ltb→lt, leb→le, eqb→eq, lt→ltb, le→leb, nleb→lt}
+use lib.Dec.{T, leb, ltb, eqb, ltb→lt, leb→le, eqb→eq, lt→ltb, le→leb}
 use native.Mathlib.Omega.{arith}
 use native.Mathlib.Nat.{eq-or-lt-of-le}
 use borrow.Author.Tests.{ne-eqb}
 use Rattle.meaning.specs.Lists.{upTo, some}
-use Rattle.meaning.specs.Table.{kind, name, parentOf, size, rows, end, mostRows, lengthAllowed, goodRoot, goodName, goodSize, nearest, goodParent, goodRow, broken, accepted}
-use Rattle.meaning.proofs.Bools.{and-l, and-r, and-i, truly, is-true, is-false, not-false, not-e, lt-or-ge}
-use Rattle.meaning.proofs.Lists.{below-none, none-below, some-from, has-upTo-from}
+use Rattle.meaning.specs.Table.{parentOf, size, rows, end, lengthAllowed, goodRoot, nearest, goodParent, goodRow, broken, accepted}
+use Rattle.meaning.proofs.Bools.{and-l, and-r, and-i, truly, is-false, not-false, not-e, lt-or-ge}
+use Rattle.meaning.proofs.Lists.{below-none, some-from, has-upTo-from}
 
 -- what acceptance says of a row that is not the root
 pub record Child (t : List ℕ) (i : ℕ) : Type 0 where
@@ -83,10 +82,10 @@ module _ (t : List ℕ) (acc : accepted t ≡ true) where
       let w : not (cond (eqb i 0) (goodRoot t) (goodRow t i)) ≡ false = whole i h in
       good-child t i (not-false (goodRow t i) (rw (ne-eqb i 0 (λ e. omega arith)) at w))
 
-  -- each row's parent is a row
-  pub parent-below : (i : ℕ) → i < rows t → parentOf t i < rows t
-  parent-below zero h = omega (arith, root-parent)
-  parent-below (suc i) h = omega (arith, child (suc i) (omega arith) h .below)
+  -- no row's parent stands after it
+  pub parent-first : (i : ℕ) → i < rows t → parentOf t i ≤ i
+  parent-first zero h = omega (arith, root-parent)
+  parent-first (suc i) h = omega (arith, child (suc i) (omega arith) h .below)
 
   nest-below : (n i j : ℕ) → j < n → j < rows t → i < j → j ≤ end t i → end t j ≤ end t i
   nest-below zero i j b h l k = absurd (omega arith)

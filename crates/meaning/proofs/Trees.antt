@@ -1,22 +1,22 @@
 -- Laws of decoding and of the tree that rows stand for: `tree-row` is the only unfolding of a tree that proofs use,
 -- and the fuel of the reading does not matter, since a link names a lower row.
 -- Assumes nothing.
-use Prim.Native.Nat.{ℕ, zero, suc, _+_, _-_, _*_, _%_, _<_, _≤_, zero-le, suc-le-suc}
+use Prim.Native.Nat.{ℕ, zero, suc, _-_, _%_, _<_, _≤_, zero-le, suc-le-suc}
 use mathlib.Core.Path.{_≡_, refl, sym, ap, _∙_}
-use mathlib.Core.Logic.{_⊎_, inl, inr}
-use mathlib.Core.Bool.{Bool, true, false, _||_, _&&_, not, cond, and-false, true≢false}
-use mathlib.Core.List.{List, [], _∷_}
-use lib.ListN.{length, getD, List·getD-eq-default}
+use mathlib.Core.Logic.{inl, inr}
+use mathlib.Core.Bool.{Bool, true, false, _||_, _&&_, cond, and-false, true≢false}
+use mathlib.Core.List.{List}
+use lib.ListN.{List·getD-eq-default}
 use lib.Dec.{leb, ltb, eqb}
 use lib.Ieee.{unlike}
 use native.Mathlib.Omega.{arith}
 use borrow.Author.Tests.{leb-true, le-leb, lt-leb, ne-eqb, eqb-true}
 use Rattle.meaning.specs.Lists.{upTo, some}
-use Rattle.meaning.specs.Axis.{Axis, axisOf, isReverse, testOf}
+use Rattle.meaning.specs.Axis.{axisOf, isReverse, testOf}
 use Rattle.meaning.specs.Axis as A
 use Rattle.meaning.specs.Rows.{Op, code, opOf, opAt, field, fieldsOf, isLink, follow, firstLink, secondLink}
 use Rattle.meaning.specs.Rows as R
-use Rattle.meaning.specs.Tree.{Tree, none, node, indexOrAxis, testAt, linked, tree}
+use Rattle.meaning.specs.Tree.{none, node, indexOrAxis, testAt, linked, tree}
 use Rattle.meaning.proofs.Bools.{lt-or-ge}
 use Rattle.meaning.proofs.Lists.{below-none}
 

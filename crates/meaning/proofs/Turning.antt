@@ -1,15 +1,13 @@
 -- Turning round: a turned path selects x from y exactly when the path selects y from x. A path whose steps do not count
 -- selects y from x exactly when there is a chain of nodes between them; a chain read from its end is one of the turned path.
 -- Assumes nothing.
-use Prim.Native.Nat.{ℕ, zero, suc, _+_, _<_}
+use Prim.Native.Nat.{ℕ, _<_}
 use mathlib.Core.Path.{_≡_, refl, sym, subst, ap, _∙_}
-use mathlib.Core.Bool.{Bool, true, false, _&&_, _||_, not, cond}
-use mathlib.Core.List.{List, [], _∷_}
+use mathlib.Core.Bool.{Bool, false, _&&_}
+use mathlib.Core.List.{List}
 use lib.ListN.{List·getD-map}
-use lib.Dec.{T, eqb, eqb→eq, eqb-refl, eqb·suc-zero}
+use lib.Dec.{T, eqb, eqb→eq, eqb-refl}
 use lib.Ieee.{Float}
-use native.Mathlib.Omega.{arith}
-use borrow.Author.Tests.{ne-eqb}
 use Rattle.meaning.specs.Lists.{keep, some, has, upTo}
 use Rattle.meaning.specs.Table.{rows}
 use Rattle.meaning.specs.Axis.{axes, axisOf, testOf, on, passes}
@@ -18,7 +16,7 @@ use Rattle.meaning.specs.Rows.{Op}
 use Rattle.meaning.specs.Rows as R
 use Rattle.meaning.specs.Tree.{Tree, none, node}
 use Rattle.meaning.specs.Meaning.{isAbsolute, startOf, select, walk}
-use Rattle.meaning.specs.Turning.{counting, steps, counts, inverses, inverseOf, inverse, predicates, test, back, turned}
+use Rattle.meaning.specs.Turning.{counting, counts, inverses, inverseOf, inverse, predicates, test, back, turned}
 use Rattle.meaning.proofs.Bools.{and-l, and-r, and-i, or-none-l, or-none-r, same, eq→eqb}
 use Rattle.meaning.proofs.Lists.{some-to, some-from, has-keep-to, has-keep-from, has-upTo-to, has-upTo-from}
 use Rattle.meaning.proofs.Axes.{inverse-axis}

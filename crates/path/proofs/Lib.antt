@@ -2,3 +2,4 @@ mod RowReads
 mod FieldKinds
 mod Passes
 mod Literals
+mod Heavy

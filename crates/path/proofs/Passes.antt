@@ -1,6 +1,6 @@
 -- The arrays that the checker's passes fill: how each starts, what one row adds, and what is read off it.
 -- Assumes nothing.
-use Prim.Native.Nat.{ℕ, zero, suc, _+_, _<_, _≤_, max}
+use Prim.Native.Nat.{ℕ, _+_, _<_, _≤_, max}
 use mathlib.Core.Path.{_≡_, refl, sym, ap, _∙_}
 use mathlib.Core.Logic.{⊎-elim}
 use mathlib.Core.Bool.{Bool, true, false, _||_, or-assoc, or-false, or-true, cond}
@@ -15,6 +15,7 @@ use Rattle.meaning.specs.Rows.{opAt, firstLink, secondLink, links, linkedBelow,
 use Rattle.meaning.specs.Tree.{tree, depth}
 use Rattle.meaning.proofs.Bools.{eq-or-ne}
 use Rattle.meaning.proofs.Trees.{first-le, second-le}
+use Rattle.meaning.proofs.Marks.{no-marks}
 use Rattle.meaning.proofs.Checks.{linked-none, linked-more, depth-row, depth-zero, depth-le}
 use Rattle.path.specs.Passes.{Marks, Depths}
 
@@ -35,15 +36,10 @@ marks-more p r m a b h e f k n l =
     let n' : b < length (set m a true) = rw (length-set m a true) n in
     rw (marked (set m a true) b l n', marked m a l k, h l, linked-more p r l, ← e, ← f) (or-assoc (linkedBelow p r l) (eqb a l) (eqb b l))
 
-replicate-false : (n l : ℕ) → getD (replicate n false) l false ≡ false
-replicate-false zero l = refl
-replicate-false (suc n) zero = refl
-replicate-false (suc n) (suc l) = replicate-false n l
-
 -- no marks before the first row
 pub marks-start : (p : List ℕ) (n : ℕ) → Marks p 0 (replicate n false)
 unfolding Marks
-marks-start p n l = replicate-false n l ∙ sym (linked-none p l)
+marks-start p n l = no-marks n l ∙ sym (linked-none p l)
 
 -- what a mark says
 pub marks-at : (p : List ℕ) (n : ℕ) (m : List Bool) → Marks p n m → (l : ℕ) → getD m l false ≡ linkedBelow p n l

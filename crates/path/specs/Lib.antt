@@ -1,2 +1,3 @@
+pub mod Heavy
 pub mod Kinds
 pub mod Passes

@@ -12,6 +12,7 @@ ghost use Prim.Native.Nat.{_≤_};
 ghost use Rattle.meaning.specs.Rows.{opOf};
 ghost use Rattle.meaning.specs.Tree.{tree};
 ghost use Rattle.meaning.specs.Turning as turning;
+ghost use Rattle.path.specs.Heavy.{heavy};
 
 // Ops 2 and 3: position() and last().
 fn is_contextual(op: usize) -> bool
@@ -87,31 +88,22 @@ pub fn counts(path: &[u32], link: usize) -> bool
     either(before, counting(path, held))
 }
 
-// Does anything below a link need a look at each node: a count of a path, or a step that counts?
-fn is_heavy(path: &[u32], link: usize) -> bool
+// Does anything in the tree that a link names need a look at each node: a count of a path, or a step that counts?
+pub fn is_heavy(path: &[u32], link: usize) -> bool
     requires { ⌜ link ≤ 256 ⌝ }
+    ensures { λ r. ⌜ r ≡ heavy (tree (now (path .entry)) link) ⌝ }
 {
     if link == 0 {
         return false;
     }
     let row = link - 1;
     let op = field_at(path, row, 0);
-    if op == 21 {
-        return true;
-    }
     let second = second_link(path, row);
-    if both(same(op, 24), counting(path, second)) {
+    let own = both(same(op, 24), counting(path, second));
+    if either(same(op, 21), own) {
         return true;
     }
     let a = is_heavy(path, first_link(path, row));
-    either(a, is_heavy(path, second))
-}
-
-// Is a chain of steps only to be walked forwards? Backwards no step may count, and where anything in it needs a look at each
-// node, looking at all nodes would cost more than at those that the chain reaches.
-pub fn goes_forward(path: &[u32], link: usize) -> bool
-    requires { ⌜ link ≤ 256 ⌝ }
-    ensures { λ r. ⌜ (r ≡ false → turning.counts (tree (now (path .entry)) link) ≡ false) ⌝ }
-{
-    either(counts(path, link), is_heavy(path, link))
+    let b = is_heavy(path, second);
+    either(a, b)
 }

@@ -5,7 +5,6 @@ use basics::either;
 use basics::entry;
 use basics::same;
 ghost use mathlib.Core.Path.{_≡_};
-ghost use mathlib.Core.Bool.{_&&_, _||_};
 ghost use Prim.Native.Nat.{_<_, _≤_};
 ghost use Rattle.meaning.specs.Rows.{opOf, field, rowsOf, fieldsOf, isLink, firstLink, secondLink};
 ghost use Rattle.meaning.specs.Tree.{indexOrAxis, testAt};

@@ -1,2 +1,2 @@
 mod Sweep
-pub mod Sets
+pub mod Accepted

@@ -4,22 +4,23 @@
 -- Assumes nothing.
 use Prim.Native.Nat.{ℕ, suc, _+_, _-_, _<_, _≤_}
 use mathlib.Core.Path.{_≡_, refl, sym, ap, _∙_}
-use mathlib.Core.Logic.{⊎-elim}
+use mathlib.Core.Logic.{_⊎_, inl, inr, ⊎-elim}
 use mathlib.Core.Bool.{Bool, true, false, _&&_, _||_, cond, and-true, and-false, and-assoc, or-false, or-comm, false≢true}
 use mathlib.Core.List.{List}
 use lib.Dec.{T, leb, ltb, eqb}
-use lib.ListN.{length, getD, set}
+use lib.ListN.{length, getD, set, length-set}
+use lib.Seq.{getD-set-other, getD-set-same}
 use native.Mathlib.Omega.{arith}
 use native.Mathlib.Numerals.{add-one}
-use borrow.Author.Tests.{lt-ltb, le-ltb}
+use borrow.Author.Tests.{lt-ltb, le-ltb, ne-eqb}
 use Rattle.meaning.specs.Lists.{upTo, some}
 use Rattle.meaning.specs.Table.{rows, parentOf, end}
 use Rattle.meaning.specs.Axis.{Axis, on, inside}
 use Rattle.meaning.specs.Axis as A
-use Rattle.meaning.proofs.Bools.{lt-or-ge, eqb-sym}
+use Rattle.meaning.proofs.Bools.{lt-or-ge, eq-or-ne, eqb-sym}
 use Rattle.meaning.proofs.Lists.{some-last, none-below}
 use Rattle.meaning.proofs.Windows.{some-below, some-at, some-at-or, upFrom, window-below, window-above, leb-ltb, following-is, preceding-is}
-use Rattle.meaning.proofs.Marks.{Wrote, WroteDown, set-if}
+use Rattle.meaning.proofs.Marks.{Wrote, WroteDown, wrote-all, down-all, set-if}
 use Rattle.reach.specs.Reach.{hit, Hits, Rooted, beyond}
 
 -- ---- gathering
@@ -73,8 +74,8 @@ left false b by-a by-v e h = sym (or-false by-a)
 
 -- ---- what each axis reaches
 
--- the parent of a row is a row
-pub rooted : (t : List ℕ) → Rooted t → (y : ℕ) → y < rows t → parentOf t y < rows t
+-- the parent of a row does not stand after it
+pub rooted : (t : List ℕ) → Rooted t → (y : ℕ) → y < rows t → parentOf t y ≤ y
 unfolding Rooted
 rooted t h = h
 
@@ -89,7 +90,7 @@ swap false true c = refl
 swap false false c = refl
 
 module _ (t : List ℕ) (from : List Bool) (y : ℕ) (low : y < rows t) where
-  pub self-hit : getD from y false ≡ hit t A.self from y
+  self-hit : getD from y false ≡ hit t A.self from y
   unfolding hit on
   self-hit = sym (some-at (λ x. getD from x false) (rows t) y low)
 
@@ -97,7 +98,7 @@ module _ (t : List ℕ) (from : List Bool) (y : ℕ) (low : y < rows t) where
   unfolding hit on
   child-hit h = sym
       (some-below (λ x. getD from x false && (ltb 0 y && eqb (parentOf t y) x)) (λ x. (ltb 0 y && getD from x false) && eqb x (parentOf t y)) (rows t) (λ x l. rw (eqb-sym (parentOf t y) x) (regroup (getD from x false) (ltb 0 y) (eqb x (parentOf t y))))
-      ∙ some-at (λ x. ltb 0 y && getD from x false) (rows t) (parentOf t y) (rooted t h y low))
+      ∙ some-at (λ x. ltb 0 y && getD from x false) (rows t) (parentOf t y) (omega (arith, rooted t h y low)))
     where
       regroup : (a b c : Bool) → (a && (b && c)) ≡ ((b && a) && c)
       regroup a true c = refl
@@ -136,7 +137,7 @@ module _ (t : List ℕ) (from : List Bool) (y : ℕ) (low : y < rows t) where
   -- a later sibling: y's parent is flagged by the marked rows behind y
   pub later-hit : Rooted t → (v : ℕ → Bool) → Gathered (rows t) (on t A.parent) from (upTo y) v → v (parentOf t y) ≡ hit t A.following-sibling from y
   unfolding Gathered hit on
-  later-hit r v h = h (parentOf t y) (rooted t r y low) ∙ sym
+  later-hit r v h = h (parentOf t y) (omega (arith, rooted t r y low)) ∙ sym
       (some-below (λ x. getD from x false && ((ltb 0 x && ltb x y) && eqb (parentOf t x) (parentOf t y))) (λ x. ltb x y && (getD from x false && on t A.parent x (parentOf t y))) (rows t) (λ x l. regroup (getD from x false) (ltb 0 x) (ltb x y) (eqb (parentOf t x) (parentOf t y)))
       ∙ window-below (λ x. getD from x false && on t A.parent x (parentOf t y)) (rows t) y (omega arith))
     where
@@ -149,7 +150,7 @@ module _ (t : List ℕ) (from : List Bool) (y : ℕ) (low : y < rows t) where
   unfolding Gathered hit on
   earlier-hit r v h =
       ⊎-elim
-      (λ p. ap (λ (b : Bool). b && v (parentOf t y)) (lt-ltb 0 y p) ∙ h (parentOf t y) (rooted t r y low)
+      (λ p. ap (λ (b : Bool). b && v (parentOf t y)) (lt-ltb 0 y p) ∙ h (parentOf t y) (omega (arith, rooted t r y low))
       ∙ sym (some-below (λ x. getD from x false && ((ltb 0 y && ltb y x) && eqb (parentOf t y) (parentOf t x))) (λ x. ltb y x && (getD from x false && on t A.parent x (parentOf t y))) (rows t) (λ x l. rw (eqb-sym (parentOf t y) (parentOf t x)) (regroup x (getD from x false) (eqb (parentOf t x) (parentOf t y)) p))
       ∙ window-above (λ x. getD from x false && on t A.parent x (parentOf t y)) (rows t) y))
       (λ p. ap (λ (b : Bool). b && v (parentOf t y)) (le-ltb 0 y p)
@@ -165,16 +166,70 @@ module _ (t : List ℕ) (from : List Bool) (y : ℕ) (low : y < rows t) where
 
 -- ---- marks written for every row
 
-module _ (t : List ℕ) (a : Axis) (from to : List Bool) (n : ℕ) where
-  pub up-hits : Wrote (hit t a from) to n → rows t ≤ n → Hits t a from to
-  unfolding Wrote Hits
-  up-hits h e y l = h y (omega arith)
+module _ (t : List ℕ) (a : Axis) (old now : List Bool) (n : ℕ) where
+  pub up-hits : Wrote (hit t a old) old now n → rows t ≤ n → Hits t a old now
+  unfolding Hits
+  up-hits h e = wrote-all (hit t a old) old now (rows t) n h e
 
-  pub down-hits : WroteDown (hit t a from) n to 0 → n ≡ rows t → Hits t a from to
-  unfolding WroteDown Hits
-  down-hits h e y l = h y (omega arith) (omega arith)
+  pub down-hits : WroteDown (hit t a old) n old now 0 → n ≡ rows t → Hits t a old now
+  unfolding Hits
+  down-hits h e y l = down-all (hit t a old) n old now h y (omega arith)
 
--- the parents are the flags themselves
-pub parent-hits : (t : List ℕ) (from to : List Bool) (i : ℕ) → Gathered (rows t) (on t A.parent) from (upTo i) (λ q. getD to q false) → i ≡ rows t → Hits t A.parent from to
+-- every set reaches itself
+pub self-hits : (t : List ℕ) (marks : List Bool) → Hits t A.self marks marks
+unfolding Hits
+self-hits t marks = self-hit t marks
+
+-- ---- the parents, which are the flags themselves: a row's flag stands where its mark was
+
+-- the marks from i on are as they were
+unfoldable pub Ahead : List Bool → List Bool → ℕ → Type 0
+Ahead old now i = (y : ℕ) → i ≤ y → getD now y false ≡ getD old y false
+
+pub ahead-start : (old : List Bool) → Ahead old old 0
+unfolding Ahead
+ahead-start old y l = refl
+
+-- row i's own mark and one that is not after it are written
+pub ahead-more : (old now : List Bool) (i p : ℕ) (v w : Bool) → Ahead old now i → p ≤ i → Ahead old (set (set now i v) p w) (i + 1)
+unfolding Ahead
+ahead-more old now i p v w h b y l = getD-set-other (set now i v) p y w false (λ e. omega arith) ∙ getD-set-other now i y v false (λ e. omega arith) ∙ h y (omega arith)
+
+pub ahead-at : (old now : List Bool) (i : ℕ) → Ahead old now i → getD now i false ≡ getD old i false
+unfolding Ahead
+ahead-at old now i h = h i (omega arith)
+
+-- the flags of the rows passed
+abbrev pub handed : ℕ → List Bool → ℕ → Bool
+handed i now q = ltb q i && getD now q false
+
+pub handed-start : (now : List Bool) (q : ℕ) → handed 0 now q ≡ false
+handed-start now q = rw (le-ltb q 0 (omega arith))
+
+-- row i's mark is taken off and handed to its parent
+pub handed-more : (t : List ℕ) (now : List Bool) (i p : ℕ) (f r m b : Bool) → p ≡ parentOf t i → p ≤ i → b ≡ ltb 0 i → m ≡ (f && b) → r ≡ (getD (set now i false) p false || m) → i < length now → (q : ℕ)
+    → handed (i + 1) (set (set now i false) p r) q ≡ (handed i now q || (f && on t A.parent i q))
+unfolding on
+handed-more t now i p f r m b is-parent before is-below is-both is-either l q =
+    ap (λ (c : Bool). ltb q (i + 1) && c) (flag-step t (set now i false) i p f r m b is-parent is-below is-both is-either (simp length-set (omega arith)) q)
+    ∙ by-place (lt-or-ge q i)
+  where
+    given : Bool
+    given = f && on t A.parent i q
+
+    by-place : (q < i) ⊎ (i ≤ q) → (ltb q (i + 1) && (getD (set now i false) q false || given)) ≡ ((ltb q i && getD now q false) || given)
+    by-place (inl k) = rw (lt-ltb q (i + 1) (omega arith), lt-ltb q i k, getD-set-other now i q false false (λ e. omega arith))
+    by-place (inr k) = rw (le-ltb q i k) (at-or-after (eq-or-ne q i))
+      where
+        at-or-after : (q ≡ i) ⊎ ((q ≡ i) → ⊥) → (ltb q (i + 1) && (getD (set now i false) q false || given)) ≡ given
+        at-or-after (inl e) = rw (lt-ltb q (i + 1) (omega arith), e, getD-set-same now i false false l)
+        at-or-after (inr e) = rw (le-ltb q (i + 1) (omega (arith, e))) (sym nothing)
+          where
+            nothing : given ≡ false
+            nothing = rw (ne-eqb (parentOf t i) q (λ d. absurd (omega (arith, is-parent))), and-false (ltb 0 i)) (and-false f)
+
+pub handed-hits : (t : List ℕ) (old now : List Bool) (i : ℕ) → Gathered (rows t) (on t A.parent) old (upTo i) (handed i now) → i ≡ rows t → Hits t A.parent old now
 unfolding Gathered Hits hit
-parent-hits t from to i h e y l = rw (← e) (h y l)
+handed-hits t old now i h e y l =
+    let flag : handed i now y ≡ getD now y false = rw (lt-ltb y i (omega arith)) in
+    sym flag ∙ rw (← e) (h y l)

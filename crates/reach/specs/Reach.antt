@@ -17,15 +17,14 @@ hit t a from y = some (λ x. getD from x false && on t a x y) (upTo (rows t))
 unfoldable pub Hits : List ℕ → Axis → List Bool → List Bool → Type 0
 Hits t a from to = (y : ℕ) → y < rows t → getD to y false ≡ hit t a from y
 
--- each row's parent is a row
+-- no row's parent stands after it
 unfoldable pub Rooted : List ℕ → Type 0
-Rooted t = (y : ℕ) → y < rows t → parentOf t y < rows t
+Rooted t = (y : ℕ) → y < rows t → parentOf t y ≤ y
 
--- what is asked of a table and its marks: no more rows than a table may have, a mark for each row, parents that are rows
-pub record Room (t : List ℕ) (from to : List Bool) : Type 0 where
+-- what is asked of a table and its marks: no more rows than a table may have, a mark for each row, parents before their children
+pub record Room (t : List ℕ) (marks : List Bool) : Type 0 where
   pub small : rows t ≤ mostRows
-  pub long-from : rows t ≤ length from
-  pub long-to : rows t ≤ length to
+  pub long : rows t ≤ length marks
   pub parents : Rooted t
 
 -- a number that no subtree's end reaches: a row's number and its size have 32 bits each

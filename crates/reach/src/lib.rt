@@ -1,7 +1,7 @@
-// The union of an axis over a set of nodes, marks in and marks out, in one or two passes over the rows
+// The union of an axis over a set of nodes, as marks, in place, in one or two passes over the rows
 // (document 01, "Meaning": each step takes every node of the set so far, and the union goes on).
 // A pass carries what it has gathered from the marked rows behind it: the furthest end, the nearest row, the least end,
-// the last row, or a flag for each parent.
+// the last row, or a flag for each parent. It reads a row's mark before it writes it.
 use basics::below;
 use basics::both;
 use basics::either;
@@ -16,8 +16,11 @@ ghost use lib.ListN.{length, getD};
 ghost use Rattle.meaning.specs.Lists.{upTo, some};
 ghost use Rattle.meaning.specs.Table.{mostRows, rows, end};
 ghost use Rattle.meaning.specs.Axis.{axisOf};
-ghost use Rattle.meaning.specs.Axis.Axis.{self, child, parent, descendant, ancestor, descendant-or-self, ancestor-or-self, following, preceding, following-sibling, preceding-sibling};
+ghost use Rattle.meaning.specs.Axis.Axis.{child, parent, descendant, ancestor, descendant-or-self, ancestor-or-self, following, preceding, following-sibling, preceding-sibling};
 ghost use Rattle.reach.specs.Reach.{Hits, Room, beyond};
+
+// The most rows of a table: a flag for each.
+const MOST_ROWS: usize = 4096;
 
 // A number that no subtree's end reaches.
 const BEYOND: usize = 8589934592;
@@ -36,85 +39,62 @@ fn smaller_if(a: usize, marked: bool, v: usize) -> usize
     if both(marked, v < a) { v } else { a }
 }
 
-// Clears the first n marks.
-fn clear(marks: &mut [bool], n: usize)
-    requires { ⌜ n ≤ length (now marks) ⌝ }
-    ensures { λ _. ⌜ ((y : ℕ) → y < n → getD (now (marks .exit)) y false ≡ false) ⌝ }
+// A row is marked if its parent was, from the last row down. Row 0 is nobody's child.
+fn mark_children(table: &[u32], marks: &mut [bool])
+    requires { ⌜ Room (now table) (now marks) ⌝ }
+    ensures { λ _. ⌜ Hits (now (table .entry)) child (now (marks .entry)) (now (marks .exit)) ⌝ }
 {
+    let mut i = row_count(table);
+    while 0 < i {
+        i -= 1;
+        let p = parent_at(table, i);
+        marks[i] = both(below(0, i), marks[p]);
+    }
+}
+
+// Each marked row hands its mark to its parent, which stands before it.
+fn mark_parents(table: &[u32], marks: &mut [bool])
+    requires { ⌜ Room (now table) (now marks) ⌝ }
+    ensures { λ _. ⌜ Hits (now (table .entry)) parent (now (marks .entry)) (now (marks .exit)) ⌝ }
+{
+    let n = row_count(table);
     let mut i = 0;
     while i < n {
+        let p = parent_at(table, i);
+        let marked = marks[i];
         marks[i] = false;
-        i += 1;
-    }
-}
-
-fn mark_selves(table: &[u32], from: &[bool], to: &mut [bool])
-    requires { ⌜ Room (now table) (now from) (now to) ⌝ }
-    ensures { λ _. ⌜ Hits (now (table .entry)) self (now (from .entry)) (now (to .exit)) ⌝ }
-{
-    let n = row_count(table);
-    let mut i = 0;
-    while i < n {
-        to[i] = from[i];
-        i += 1;
-    }
-}
-
-// A row is marked if its parent was. Row 0 is nobody's child.
-fn mark_children(table: &[u32], from: &[bool], to: &mut [bool])
-    requires { ⌜ Room (now table) (now from) (now to) ⌝ }
-    ensures { λ _. ⌜ Hits (now (table .entry)) child (now (from .entry)) (now (to .exit)) ⌝ }
-{
-    let n = row_count(table);
-    let mut i = 0;
-    while i < n {
-        let p = parent_at(table, i);
-        to[i] = both(below(0, i), from[p]);
-        i += 1;
-    }
-}
-
-fn mark_parents(table: &[u32], from: &[bool], to: &mut [bool])
-    requires { ⌜ Room (now table) (now from) (now to) ⌝ }
-    ensures { λ _. ⌜ Hits (now (table .entry)) parent (now (from .entry)) (now (to .exit)) ⌝ }
-{
-    let n = row_count(table);
-    clear(to, n);
-    let mut i = 0;
-    while i < n {
-        let p = parent_at(table, i);
-        to[p] = either(to[p], both(from[i], below(0, i)));
+        marks[p] = either(marks[p], both(marked, below(0, i)));
         i += 1;
     }
 }
 
 // The descendants, and the rows themselves where own: before the furthest end of a marked row behind.
-fn mark_descendants(table: &[u32], own: bool, from: &[bool], to: &mut [bool])
-    requires { ⌜ Room (now table) (now from) (now to) ⌝ }
-    ensures { λ _. ⌜ Hits (now (table .entry)) (cond own descendant-or-self descendant) (now (from .entry)) (now (to .exit)) ⌝ }
+fn mark_descendants(table: &[u32], own: bool, marks: &mut [bool])
+    requires { ⌜ Room (now table) (now marks) ⌝ }
+    ensures { λ _. ⌜ Hits (now (table .entry)) (cond own descendant-or-self descendant) (now (marks .entry)) (now (marks .exit)) ⌝ }
 {
     let n = row_count(table);
     let mut far = 0;
     let mut i = 0;
     while i < n {
-        let marked = from[i];
-        to[i] = either(both(own, marked), below(i, far));
+        let marked = marks[i];
+        marks[i] = either(both(own, marked), below(i, far));
         far = larger_if(far, marked, end_at(table, i) + 1);
         i += 1;
     }
 }
 
 // The ancestors, and the rows themselves where own: the nearest marked row after them is not past their end.
-fn mark_ancestors(table: &[u32], own: bool, from: &[bool], to: &mut [bool])
-    requires { ⌜ Room (now table) (now from) (now to) ⌝ }
-    ensures { λ _. ⌜ Hits (now (table .entry)) (cond own ancestor-or-self ancestor) (now (from .entry)) (now (to .exit)) ⌝ }
+fn mark_ancestors(table: &[u32], own: bool, marks: &mut [bool])
+    requires { ⌜ Room (now table) (now marks) ⌝ }
+    ensures { λ _. ⌜ Hits (now (table .entry)) (cond own ancestor-or-self ancestor) (now (marks .entry)) (now (marks .exit)) ⌝ }
 {
     let mut near = BEYOND;
     let mut i = row_count(table);
     while 0 < i {
         i -= 1;
-        let marked = from[i];
-        to[i] = either(both(own, marked), below(near, end_at(table, i) + 1));
+        let marked = marks[i];
+        marks[i] = either(both(own, marked), below(near, end_at(table, i) + 1));
         near = smaller_if(near, marked, i);
     }
 }
@@ -148,84 +128,85 @@ fn last_marked(from: &[bool], n: usize) -> usize
     high
 }
 
-fn mark_following(table: &[u32], from: &[bool], to: &mut [bool])
-    requires { ⌜ Room (now table) (now from) (now to) ⌝ }
-    ensures { λ _. ⌜ Hits (now (table .entry)) following (now (from .entry)) (now (to .exit)) ⌝ }
+fn mark_following(table: &[u32], marks: &mut [bool])
+    requires { ⌜ Room (now table) (now marks) ⌝ }
+    ensures { λ _. ⌜ Hits (now (table .entry)) following (now (marks .entry)) (now (marks .exit)) ⌝ }
 {
     let n = row_count(table);
-    let low = least_end(table, from);
+    let low = least_end(table, marks);
     let mut i = 0;
     while i < n {
-        to[i] = below(low, i);
+        marks[i] = below(low, i);
         i += 1;
     }
 }
 
-fn mark_preceding(table: &[u32], from: &[bool], to: &mut [bool])
-    requires { ⌜ Room (now table) (now from) (now to) ⌝ }
-    ensures { λ _. ⌜ Hits (now (table .entry)) preceding (now (from .entry)) (now (to .exit)) ⌝ }
+fn mark_preceding(table: &[u32], marks: &mut [bool])
+    requires { ⌜ Room (now table) (now marks) ⌝ }
+    ensures { λ _. ⌜ Hits (now (table .entry)) preceding (now (marks .entry)) (now (marks .exit)) ⌝ }
 {
     let n = row_count(table);
-    let high = last_marked(from, n);
+    let high = last_marked(marks, n);
     let mut i = 0;
     while i < n {
-        to[i] = below(end_at(table, i), high);
+        marks[i] = below(end_at(table, i), high);
         i += 1;
     }
 }
 
 // A row is marked if a marked sibling was passed: seen has a flag for each parent. Row 0 has no siblings.
-fn mark_later_siblings(table: &[u32], from: &[bool], to: &mut [bool], seen: &mut [bool])
-    requires { ⌜ Room (now table) (now from) (now to) ⌝ ∗ ⌜ rows (now table) ≤ length (now seen) ⌝ }
-    ensures { λ _. ⌜ Hits (now (table .entry)) following-sibling (now (from .entry)) (now (to .exit)) ⌝ }
+fn mark_later_siblings(table: &[u32], marks: &mut [bool])
+    requires { ⌜ Room (now table) (now marks) ⌝ }
+    ensures { λ _. ⌜ Hits (now (table .entry)) following-sibling (now (marks .entry)) (now (marks .exit)) ⌝ }
 {
     let n = row_count(table);
-    clear(seen, n);
+    let mut seen = [false; MOST_ROWS];
     let mut i = 0;
     while i < n {
         let p = parent_at(table, i);
         let passed = seen[p];
-        to[i] = passed;
-        seen[p] = either(passed, both(from[i], below(0, i)));
+        let marked = marks[i];
+        marks[i] = passed;
+        seen[p] = either(passed, both(marked, below(0, i)));
         i += 1;
     }
 }
 
 // The same from the last row down.
-fn mark_earlier_siblings(table: &[u32], from: &[bool], to: &mut [bool], seen: &mut [bool])
-    requires { ⌜ Room (now table) (now from) (now to) ⌝ ∗ ⌜ rows (now table) ≤ length (now seen) ⌝ }
-    ensures { λ _. ⌜ Hits (now (table .entry)) preceding-sibling (now (from .entry)) (now (to .exit)) ⌝ }
+fn mark_earlier_siblings(table: &[u32], marks: &mut [bool])
+    requires { ⌜ Room (now table) (now marks) ⌝ }
+    ensures { λ _. ⌜ Hits (now (table .entry)) preceding-sibling (now (marks .entry)) (now (marks .exit)) ⌝ }
 {
-    let n = row_count(table);
-    clear(seen, n);
-    let mut i = n;
+    let mut seen = [false; MOST_ROWS];
+    let mut i = row_count(table);
     while 0 < i {
         i -= 1;
         let p = parent_at(table, i);
         let passed = seen[p];
+        let marked = marks[i];
         let child = below(0, i);
-        to[i] = both(child, passed);
-        seen[p] = either(passed, both(from[i], child));
+        marks[i] = both(child, passed);
+        seen[p] = either(passed, both(marked, child));
     }
 }
 
-// Marks the rows that are on the axis with this number of some marked row; a number above 10 reads as axis 0.
-// seen is room to work in for the siblings, and what it held does not matter.
-pub fn reach(table: &[u32], axis: usize, from: &[bool], to: &mut [bool], seen: &mut [bool])
-    requires { ⌜ Room (now table) (now from) (now to) ⌝ ∗ ⌜ rows (now table) ≤ length (now seen) ⌝ }
-    ensures { λ _. ⌜ Hits (now (table .entry)) (axisOf axis) (now (from .entry)) (now (to .exit)) ⌝ }
+// Marks the rows that are on the axis with this number of some row that was marked, and no others. A number above 10 reads as
+// axis 0, self, on which every set stays as it is.
+pub fn reach(table: &[u32], axis: usize, marks: &mut [bool])
+    requires { ⌜ Room (now table) (now marks) ⌝ }
+    ensures { λ _. ⌜ Hits (now (table .entry)) (axisOf axis) (now (marks .entry)) (now (marks .exit)) ⌝ }
 {
     match axis {
-        1 => mark_children(table, from, to),
-        2 => mark_parents(table, from, to),
-        3 => mark_descendants(table, false, from, to),
-        4 => mark_ancestors(table, false, from, to),
-        5 => mark_descendants(table, true, from, to),
-        6 => mark_ancestors(table, true, from, to),
-        7 => mark_following(table, from, to),
-        8 => mark_preceding(table, from, to),
-        9 => mark_later_siblings(table, from, to, seen),
-        10 => mark_earlier_siblings(table, from, to, seen),
-        _ => mark_selves(table, from, to),
+        1 => mark_children(table, marks),
+        2 => mark_parents(table, marks),
+        3 => mark_descendants(table, false, marks),
+        4 => mark_ancestors(table, false, marks),
+        5 => mark_descendants(table, true, marks),
+        6 => mark_ancestors(table, true, marks),
+        7 => mark_following(table, marks),
+        8 => mark_preceding(table, marks),
+        9 => mark_later_siblings(table, marks),
+        10 => mark_earlier_siblings(table, marks),
+        _ => {}
     }
 }

@@ -1,14 +1,16 @@
--- Laws of sets as marks: a chain of predicates narrows a set one after the other, a step back and a chain of steps back, and a
--- step that does not count, taken from all marked nodes at once, reaches the union of what it reaches from each.
+-- Laws of sets as marks, and of states as sets: a chain of predicates narrows a set, one after the other; a step back and a
+-- chain of steps back, over rows that are near, and what is near; a step that does not count, taken from all marked nodes at
+-- once, reaches the union of what it reaches from each; truths decided for all rows.
 -- Assumes nothing.
 use Prim.Native.Nat.{ℕ, _+_, _-_, _<_}
-use mathlib.Core.Path.{_≡_, refl, sym, ap, _∙_}
-use mathlib.Core.Bool.{Bool, true, false, _&&_, cond, and-assoc, and-true}
+use mathlib.Core.Path.{_≡_, refl, sym, _∙_}
+use mathlib.Core.Bool.{Bool, true, false, _&&_, cond, and-assoc, and-true, or-true}
 use mathlib.Core.List.{List}
 use lib.ListN.{length, getD}
-use lib.Dec.{ltb}
+use lib.Dec.{ltb, eqb}
 use lib.Ieee.{Float}
 use native.Mathlib.Omega.{arith}
+use borrow.Author.Tests.{eq-eqb}
 use Rattle.meaning.specs.Lists.{upTo, some, has}
 use Rattle.meaning.specs.Table.{rows}
 use Rattle.meaning.specs.Axis.{axisOf, testOf, on, passes}
@@ -17,15 +19,16 @@ use Rattle.meaning.specs.Tree.{Tree, tree, indexOrAxis, testAt}
 use Rattle.meaning.specs.Meaning.{select, union}
 use Rattle.meaning.specs.Turning.{counting, counts, inverseOf}
 use Rattle.meaning.proofs.Lists.{some-same}
-use Rattle.meaning.proofs.Windows.{some-and, some-keep}
+use Rattle.meaning.proofs.Windows.{some-below, some-and, some-keep}
 use Rattle.meaning.proofs.Marks.{listed, listed-by}
 use Rattle.meaning.proofs.Evaluation.{stepTo}
 use Rattle.meaning.proofs.Free.{true-at, ok, fits, free-step}
-use Rattle.meaning.proofs.Backward.{before, backs, before-by, backs-agree, backs-none, backs-row, ok-none, ok-row, pair-row, not-row, exists-row, relative-row, absolute-row}
+use Rattle.meaning.proofs.Backward.{before, backs, before-by, ok-none, ok-row, pair-row, not-row, exists-row, relative-row, absolute-row}
+use Rattle.meaning.proofs.Near.{ahead, Covers, covers-agree, covers-all, covers-more, near-agree, near-backs, ahead-none, covers-none, ahead-row, covers-row, near-none, near-row}
 use Rattle.reach.specs.Reach.{hit, Hits}
-use Rattle.sieve.specs.Sieve.{Recast, Exchanged, Sieved, Bounded, Entered, Left}
-use Rattle.sieve.proofs.Sieves.{narrowed, sieved-agree, sieved-bounded, recast-bounded, entered-bounded, pair-sieved, not-sieved}
-use Rattle.select.specs.Sets.{Sifted, Narrowed, Led, LedBy}
+use Rattle.sieve.specs.Sieve.{state, Recast, Exchanged, Sieved, Bounded, Retained}
+use Rattle.sieve.proofs.Sieves.{sieved-agree, sieved-bounded, recast-bounded, pair-sieved, not-sieved, thinned-state, thinned-bounded, settled-marks, settled-bounded, retained-marks}
+use Rattle.select.specs.Sets.{Sifted, Met, Joined, Narrowed, Thinned, LedBy, Led, Covered}
 
 module _ (t : List ℕ) (literals : List Float) where
   -- the rows that pass a test and the predicates behind it
@@ -33,25 +36,44 @@ module _ (t : List ℕ) (literals : List Float) where
   unfolding Sifted Narrowed
   sifted-narrowed d e entry mid exit s n y l = n y l ∙ rw (s y l) (and-assoc (getD entry y false) (passes t (testOf d) y) (ok t literals e y))
 
-  -- one step back: the test, the predicates, the inverse axis
-  pub led-by : (c r d : ℕ) (e : Tree) (entry mid next exit : List Bool) → r ≡ inverseOf c → Sifted t d entry mid → Narrowed t literals e mid next → Hits t (axisOf r) next exit → LedBy t literals e c d entry exit
-  unfolding LedBy Hits hit
-  led-by c r d e entry mid next exit q s n h y l = h y l ∙ rw q (before-by t literals c d e (λ z. getD entry z false) (λ z. getD next z false) (sifted-narrowed d e entry mid next s n) y)
+  -- one step back: what is near, the test, the predicates, the inverse axis
+  pub led-by : (c r d : ℕ) (e : Tree) (near entry met mid next exit : List Bool) → r ≡ inverseOf c → Met t near entry met → Sifted t d met mid → Narrowed t literals e mid next → Hits t (axisOf r) next exit → LedBy t literals near e c d entry exit
+  unfolding LedBy Met Hits hit
+  led-by c r d e near entry met mid next exit q m s n h y l =
+      h y l ∙ rw q (before-by t literals c d e (λ z. getD entry z false && getD near z false) (λ z. getD next z false) (λ z k. sifted-narrowed d e met mid next s n z k ∙ rw (m z k)) y)
 
   -- one step forward that does not count: the axis, the test, the predicates
-  pub strode : (p : List ℕ) (b c d : ℕ) (marks next mid exit : List Bool) → counting (tree p b) ≡ false → Hits t (axisOf c) marks next → Sifted t d next mid → Narrowed t literals (tree p b) mid exit
-      → listed t exit ≡ union t (stepTo t literals p b c d) (listed t marks)
+  pub strode : (p : List ℕ) (b c d : ℕ) (entry reached mid exit : List Bool) → counting (tree p b) ≡ false → Hits t (axisOf c) entry reached → Sifted t d reached mid → Narrowed t literals (tree p b) mid exit
+      → listed t exit ≡ union t (stepTo t literals p b c d) (listed t entry)
   unfolding union listed Hits hit
-  strode p b c d marks next mid exit free h s n = listed-by t exit (λ y. some (λ x. has (stepTo t literals p b c d x) y) (listed t marks)) reached
+  strode p b c d entry reached mid exit free h s n = listed-by t exit (λ y. some (λ x. has (stepTo t literals p b c d x) y) (listed t entry)) marked
     where
-      reached : (y : ℕ) → y < rows t → getD exit y false ≡ some (λ x. has (stepTo t literals p b c d x) y) (listed t marks)
-      reached y l =
+      marked : (y : ℕ) → y < rows t → getD exit y false ≡ some (λ x. has (stepTo t literals p b c d x) y) (listed t entry)
+      marked y l =
           let good : Bool = fits t literals (testOf d) (tree p b) y in
-          sifted-narrowed d (tree p b) next mid exit s n y l
+          sifted-narrowed d (tree p b) reached mid exit s n y l
           ∙ rw (h y l)
-          (sym (some-and (λ x. getD marks x false && on t (axisOf c) x y) good (upTo (rows t)))
-          ∙ some-same (λ x. (getD marks x false && on t (axisOf c) x y) && good) (λ x. getD marks x false && has (stepTo t literals p b c d x) y) (upTo (rows t)) (λ x. rw (free-step t literals (axisOf c) (testOf d) (tree p b) x y free l) (and-assoc (getD marks x false) (on t (axisOf c) x y) good))
-          ∙ sym (some-keep (λ x. has (stepTo t literals p b c d x) y) (λ x. getD marks x false) (upTo (rows t))))
+          (sym (some-and (λ x. getD entry x false && on t (axisOf c) x y) good (upTo (rows t)))
+          ∙ some-same (λ x. (getD entry x false && on t (axisOf c) x y) && good) (λ x. getD entry x false && has (stepTo t literals p b c d x) y) (upTo (rows t)) (λ x. rw (free-step t literals (axisOf c) (testOf d) (tree p b) x y free l) (and-assoc (getD entry x false) (on t (axisOf c) x y) good))
+          ∙ sym (some-keep (λ x. has (stepTo t literals p b c d x) y) (λ x. getD entry x false) (upTo (rows t))))
+
+  -- a set is narrowed as states: all are active, the marked ones stay so, the predicates thin them, and what is active stays marked
+  pub narrowed-by : (e : Tree) (n : ℕ) (entry exit : List Bool) (fresh settled thinned : List ℕ) → n ≡ rows t → ((y : ℕ) → y < n → state fresh y ≡ 2) → Sieved (λ y. getD entry y false) 2 n fresh settled → Thinned t literals e settled thinned → Retained n 2 thinned entry exit
+      → Narrowed t literals e entry exit
+  unfolding Narrowed Thinned
+  narrowed-by e n entry exit fresh settled thinned q all s h r y l =
+      retained-marks n (ok t literals e) thinned entry exit r (λ z k. h z (rw q at k) ∙ rw (settled-marks n entry fresh settled all s z k)) y (rw q l)
+
+-- ---- states that are low enough for a truth to be decided
+
+module _ (t : List ℕ) (n : ℕ) (all : n ≡ rows t) where
+  -- where all are active and the marked ones stay so, none is above the failing ones, 3
+  pub settled-low : (marks : List Bool) (fresh settled : List ℕ) → ((y : ℕ) → y < n → state fresh y ≡ 2) → Sieved (λ y. getD marks y false) 2 n fresh settled → Bounded (rows t) 3 settled
+  settled-low marks fresh settled h s = rw all at (settled-bounded n marks fresh settled h s)
+
+  -- where the failing ones are put out, none is above the active ones, 2
+  pub put-low : (put mid : List ℕ) → Bounded (rows t) 3 put → Recast n 3 0 put mid → Bounded (rows t) 2 mid
+  put-low put mid h r = thinned-bounded (rows t) put mid h (rw all at r)
 
 -- ---- chains, stated over what code has read of their rows
 
@@ -61,26 +83,80 @@ module _ (t : List ℕ) (literals : List Float) (p : List ℕ) (l : ℕ) where
   unfolding Narrowed
   narrowed-none marks e y k = rw (← ok-none t literals p l y e) (sym (and-true (getD marks y false)))
 
-  pub led-none : (marks : List Bool) → l ≡ 0 → Led t literals (tree p l) marks marks
+  pub thinned-none : (states : List ℕ) → l ≡ 0 → Thinned t literals (tree p l) states states
+  unfolding Thinned
+  thinned-none states e y k = rw (← ok-none t literals p l y e) (sym (and-true (eqb (state states y) 2)))
+
+  pub led-none : (near marks : List Bool) → l ≡ 0 → Led t literals near (tree p l) marks marks
   unfolding Led
-  led-none marks e y k = backs-none t literals p l (λ z. getD marks z false) y e
+  led-none near marks e y k = near-none t literals p l (λ z. getD near z false) (λ z. getD marks z false) y e
 
   module _ (some-row : (l ≡ 0) → ⊥) (a b : ℕ) (is-first : a ≡ firstLink p (l - 1)) (is-second : b ≡ secondLink p (l - 1)) where
-    -- those before it narrow the set, then its own truth, decided for what is left
-    pub narrowed-row : (entry mid exit : List Bool) (n : ℕ) (before after : List ℕ) → n ≡ rows t → Narrowed t literals (tree p a) entry mid → Entered n mid before → Sieved (true-at t literals (tree p b)) 2 (rows t) before after → Left n after exit
-        → Narrowed t literals (tree p l) entry exit
-    unfolding Narrowed
-    narrowed-row entry mid exit n before after q h f g k y m =
-        narrowed (rows t) (true-at t literals (tree p b)) mid exit before after (rw q at f) g (rw q at k) y m
-        ∙ rw (h y m, ← ok-row t literals p l some-row a is-first b is-second y) (and-assoc (getD entry y false) (ok t literals (tree p a) y) (true-at t literals (tree p b) y))
+    -- those before it thin the set, then its own truth, decided for what is left
+    pub thinned-row : (n : ℕ) (entry put mid exit : List ℕ) → n ≡ rows t → Thinned t literals (tree p a) entry put → Recast n 3 0 put mid → Sieved (true-at t literals (tree p b)) 2 (rows t) mid exit → Thinned t literals (tree p l) entry exit
+    unfolding Thinned
+    thinned-row n entry put mid exit q h r s y m =
+        thinned-state (rows t) (true-at t literals (tree p b)) put mid exit (rw q at r) s y m
+        ∙ rw (h y m, ← ok-row t literals p l some-row a is-first b is-second y) (and-assoc (eqb (state entry y) 2) (ok t literals (tree p a) y) (true-at t literals (tree p b) y))
 
     -- one step back, then those before it
-    pub led-row : (c d : ℕ) (entry mid exit : List Bool) → c ≡ indexOrAxis p (l - 1) → d ≡ testAt p (l - 1) → LedBy t literals (tree p b) c d entry mid → Led t literals (tree p a) mid exit → Led t literals (tree p l) entry exit
+    pub led-row : (c d : ℕ) (near entry mid exit : List Bool) → c ≡ indexOrAxis p (l - 1) → d ≡ testAt p (l - 1) → LedBy t literals near (tree p b) c d entry mid → Led t literals near (tree p a) mid exit → Led t literals near (tree p l) entry exit
     unfolding Led LedBy
-    led-row c d entry mid exit e f h k y m =
+    led-row c d near entry mid exit e f h k y m =
         k y m
-        ∙ backs-agree t literals (tree p a) (λ z. getD mid z false) (before t literals c d (tree p b) (λ z. getD entry z false)) h y m
-        ∙ backs-row t literals p l some-row a is-first b is-second c d e f (λ z. getD entry z false) y
+        ∙ near-agree t literals (λ z. getD near z false) (tree p a) (λ z. getD mid z false) (before t literals c d (tree p b) (λ z. getD entry z false && getD near z false)) h y m
+        ∙ near-row t literals p l (λ z. getD near z false) some-row a b c d is-first is-second e f (λ z. getD entry z false) y
+
+-- ---- what a chain of steps may come by
+
+module _ (t p : List ℕ) (l : ℕ) where
+  -- no steps: the set itself, and nothing on the way
+  pub covered-none : (marks near : List Bool) → l ≡ 0 → Covered t (tree p l) marks marks near near
+  covered-none marks near e = record {
+    reached = λ y k. ahead-none t p l (λ x. getD marks x false) y e;
+    kept = λ y k h. h;
+    covers = covers-none t p l (λ y. getD near y false) (λ x. getD marks x false) e;
+  }
+
+  -- those before it, then its axis and its test; what they reach is near too
+  pub covered-row : (some-row : (l ≡ 0) → ⊥) (a c d : ℕ) → a ≡ firstLink p (l - 1) → c ≡ indexOrAxis p (l - 1) → d ≡ testAt p (l - 1) → (entry mid hits exit before between after : List Bool)
+      → Covered t (tree p a) entry mid before between → Hits t (axisOf c) mid hits → Sifted t d hits exit → Joined t exit between after → Covered t (tree p l) entry exit before after
+  unfolding Hits hit Sifted Joined
+  covered-row some-row a c d is-first e f entry mid hits exit before between after first h s j = record { reached = marked; kept = λ y k r. more y k (first .kept y k r); covers = near }
+    where
+      from : ℕ → Bool
+      from = λ x. getD entry x false
+
+      marked : (y : ℕ) → y < rows t → getD exit y false ≡ ahead t (tree p l) from y
+      marked y k =
+          s y k
+          ∙ rw (h y k, some-below (λ x. getD mid x false && on t (axisOf c) x y) (λ x. ahead t (tree p a) from x && on t (axisOf c) x y) (rows t) (λ x m. rw (first .reached x m))) (ahead-row t p l some-row a is-first c d e f from y)
+
+      more : (y : ℕ) → y < rows t → getD between y false ≡ true → getD after y false ≡ true
+      more y k r = j y k ∙ rw r
+
+      near : Covers t (λ y. getD after y false) (tree p l) from
+      near = covers-row t p l some-row a is-first (λ y. getD after y false) from (covers-more t (tree p a) (λ y. getD between y false) (λ y. getD after y false) from (first .covers) more)
+          (λ y k r. j y k ∙ rw (marked y k, r) (or-true (getD between y false)))
+
+-- ---- whether a chain of steps leads anywhere, decided for all rows
+
+module _ (t : List ℕ) (literals : List Float) (s : Tree) (n active : ℕ) (entry exit : List ℕ) (near full marks : List Bool) (all : n ≡ rows t) (is-full : (y : ℕ) → y < rows t → getD full y false ≡ true)
+    (led : Led t literals near s full marks) (settled : Sieved (λ y. getD marks y false) active n entry exit) where
+  -- backwards from all rows, over what is near, where that covers what the chain may come by from the active rows
+  back-decided : Covers t (λ y. getD near y false) s (λ x. eqb (state entry x) active) → Sieved (backs t literals s (λ z. true)) active (rows t) entry exit
+  unfolding Led
+  back-decided c = sieved-agree active (rows t) entry exit (λ y. getD marks y false) (backs t literals s (λ z. true)) (rw all at settled)
+      (λ y k i. led y k ∙ near-backs t literals s (λ y. getD near y false) (λ x. eqb (state entry x) active) c (λ z. getD full z false) (λ z. true) (λ z m h. is-full z m) y k (eq-eqb (state entry y) active i))
+
+  -- all rows are near
+  pub all-decided : ((y : ℕ) → y < rows t → getD near y false ≡ true) → Sieved (backs t literals s (λ z. true)) active (rows t) entry exit
+  all-decided h = back-decided (covers-all t s (λ y. getD near y false) (λ x. eqb (state entry x) active) h)
+
+  -- what the chain may come by from the active rows is near
+  pub near-decided : (reached ahead before : List Bool) → Retained n active entry full reached → Covered t s reached ahead before near → Sieved (backs t literals s (λ z. true)) active (rows t) entry exit
+  unfolding Retained
+  near-decided reached ahead before r c = back-decided (covers-agree t s (λ y. getD near y false) (λ x. getD reached x false) (λ x. eqb (state entry x) active) (λ x k. r x (rw all k) ∙ rw (is-full x k)) (c .covers))
 
 -- ---- the existence of what a path selects, decided for all rows
 
@@ -89,12 +165,12 @@ module _ (t : List ℕ) (literals : List Float) (p : List ℕ) (l : ℕ) (some-r
   -- an absolute path, from any node
   pub absolute-decided : op ≡ 23 → (k : ℕ) (r : Bool) (n : ℕ) → k ≡ length (select t literals (tree p a) 0) → r ≡ ltb 0 k → n ≡ rows t → Sieved (λ y. r) active n entry exit → Sieved (true-at t literals (tree p l)) active (rows t) entry exit
   absolute-decided e k r n f g q h = sieved-agree active (rows t) entry exit (λ y. r) (true-at t literals (tree p l)) (rw q at h)
-      (λ y m. g ∙ rw (f, absolute-row t literals p a some-path (firstLink p (a - 1)) refl op is-op e 0 y) (exists-row t literals p l some-row a is-path (field p (l - 1) 0) refl exists y))
+      (λ y m i. g ∙ rw (f, absolute-row t literals p a some-path (firstLink p (a - 1)) refl op is-op e 0 y) (exists-row t literals p l some-row a is-path (field p (l - 1) 0) refl exists y))
 
   -- a relative path whose steps do not count, backwards
   pub relative-decided : (op ≡ 23 → ⊥) → (s : ℕ) → s ≡ firstLink p (a - 1) → (r : Bool) → r ≡ counts (tree p s) → r ≡ false → Sieved (backs t literals (tree p s) (λ z. true)) active (rows t) entry exit → Sieved (true-at t literals (tree p l)) active (rows t) entry exit
   relative-decided q s is-steps r f g h = sieved-agree active (rows t) entry exit (backs t literals (tree p s) (λ z. true)) (true-at t literals (tree p l)) h
-      (λ y m. relative-row t literals p a some-path s is-steps op is-op q (sym f ∙ g) y m ∙ exists-row t literals p l some-row a is-path (field p (l - 1) 0) refl exists y)
+      (λ y m i. relative-row t literals p a some-path s is-steps op is-op q (sym f ∙ g) y m ∙ exists-row t literals p l some-row a is-path (field p (l - 1) 0) refl exists y)
 
 -- ---- and, or, not, decided for all rows
 
@@ -110,21 +186,10 @@ module _ (t : List ℕ) (literals : List Float) (p : List ℕ) (l : ℕ) (some-r
         → Sieved (true-at t literals (tree p l)) active (rows t) entry exit
     pair-decided b is-second both back exit second holding failing = sieved-agree active (rows t) entry exit _ (true-at t literals (tree p l))
         (pair-sieved active (rows t) (true-at t literals (tree p a)) entry decided low first (true-at t literals (tree p b)) raised both back exit second (rw all at holding) (rw all at failing) any (rw (all, is-from) at up))
-        (λ y m. pair-row t literals p l some-row a is-first (field p (l - 1) 0) refl b is-second any op y)
+        (λ y m i. pair-row t literals p l some-row a is-first (field p (l - 1) 0) refl b is-second any op y)
 
   -- a not
   pub not-decided : (exit : List ℕ) → field p (l - 1) 0 ≡ 18 → Exchanged n active decided exit → Sieved (true-at t literals (tree p l)) active (rows t) entry exit
   not-decided exit op turn = sieved-agree active (rows t) entry exit _ (true-at t literals (tree p l))
       (not-sieved active (rows t) (true-at t literals (tree p a)) entry decided low first exit (rw all at turn))
-      (λ y m. not-row t literals p l some-row a is-first (field p (l - 1) 0) refl op y)
-
-module _ (t : List ℕ) (n : ℕ) where
-  -- nothing is above the first level
-  pub entered-low : (marks : List Bool) (states : List ℕ) → n ≡ rows t → Entered n marks states → Bounded (rows t) 2 states
-  entered-low marks states q h = rw q at (entered-bounded n marks states h)
-
-  -- whether a chain of steps leads anywhere: backwards from all rows
-  pub back-decided : (literals : List Float) (s : Tree) (full marks : List Bool) (active : ℕ) (entry exit : List ℕ) → n ≡ rows t → ((z : ℕ) → z < rows t → getD full z false ≡ true) → Led t literals s full marks → Sieved (λ y. getD marks y false) active n entry exit
-      → Sieved (backs t literals s (λ z. true)) active (rows t) entry exit
-  unfolding Led
-  back-decided literals s full marks active entry exit q h k g = sieved-agree active (rows t) entry exit (λ y. getD marks y false) (backs t literals s (λ z. true)) (rw q at g) (λ y m. k y m ∙ backs-agree t literals s (λ z. getD full z false) (λ z. true) h y m)
+      (λ y m i. not-row t literals p l some-row a is-first (field p (l - 1) 0) refl op y)

@@ -2,28 +2,50 @@
 -- Assumes nothing: these are definitions.
 use Prim.Native.Nat.{ℕ, _<_}
 use mathlib.Core.Path.{_≡_}
-use mathlib.Core.Bool.{Bool, false, _&&_}
+use mathlib.Core.Bool.{Bool, true, false, _&&_, _||_}
 use mathlib.Core.List.{List}
+use lib.Dec.{eqb}
 use lib.ListN.{getD}
 use lib.Ieee.{Float}
 use Rattle.meaning.specs.Table.{rows}
 use Rattle.meaning.specs.Axis.{passes, testOf}
 use Rattle.meaning.specs.Tree.{Tree}
 use Rattle.meaning.proofs.Free.{ok}
-use Rattle.meaning.proofs.Backward.{before, backs}
+use Rattle.meaning.proofs.Backward.{before}
+use Rattle.meaning.proofs.Near.{backsNear, ahead, Covers}
+use Rattle.sieve.specs.Sieve.{state}
 
 -- of the rows those stay marked that pass the test
 unfoldable pub Sifted : List ℕ → ℕ → List Bool → List Bool → Type 0
 Sifted t d entry exit = (y : ℕ) → y < rows t → getD exit y false ≡ (getD entry y false && passes t (testOf d) y)
 
+-- of the rows those stay marked that the other set has too
+unfoldable pub Met : List ℕ → List Bool → List Bool → List Bool → Type 0
+Met t others entry exit = (y : ℕ) → y < rows t → getD exit y false ≡ (getD entry y false && getD others y false)
+
+-- the rows that the other set has are marked too
+unfoldable pub Joined : List ℕ → List Bool → List Bool → List Bool → Type 0
+Joined t others entry exit = (y : ℕ) → y < rows t → getD exit y false ≡ (getD entry y false || getD others y false)
+
 -- of the rows those stay marked at which all predicates of a chain hold
 unfoldable pub Narrowed : List ℕ → List Float → Tree → List Bool → List Bool → Type 0
 Narrowed t literals e entry exit = (y : ℕ) → y < rows t → getD exit y false ≡ (getD entry y false && ok t literals e y)
 
--- the rows from which a chain of steps leads to a marked row
-unfoldable pub Led : List ℕ → List Float → Tree → List Bool → List Bool → Type 0
-Led t literals s entry exit = (y : ℕ) → y < rows t → getD exit y false ≡ backs t literals s (λ z. getD entry z false) y
+-- the same of the rows that are active at the first level, 2
+unfoldable pub Thinned : List ℕ → List Float → Tree → List ℕ → List ℕ → Type 0
+Thinned t literals e entry exit = (y : ℕ) → y < rows t → eqb (state exit y) 2 ≡ (eqb (state entry y) 2 && ok t literals e y)
 
--- the rows from which one step leads to a marked row
-unfoldable pub LedBy : List ℕ → List Float → Tree → ℕ → ℕ → List Bool → List Bool → Type 0
-LedBy t literals e c d entry exit = (y : ℕ) → y < rows t → getD exit y false ≡ before t literals c d e (λ z. getD entry z false) y
+-- the rows from which one step leads to a marked row that is near
+unfoldable pub LedBy : List ℕ → List Float → List Bool → Tree → ℕ → ℕ → List Bool → List Bool → Type 0
+LedBy t literals near e c d entry exit = (y : ℕ) → y < rows t → getD exit y false ≡ before t literals c d e (λ z. getD entry z false && getD near z false) y
+
+-- the rows from which a chain of steps leads, over rows that are near alone, to a marked row
+unfoldable pub Led : List ℕ → List Float → List Bool → Tree → List Bool → List Bool → Type 0
+Led t literals near s entry exit = (y : ℕ) → y < rows t → getD exit y false ≡ backsNear t literals (λ z. getD near z false) s (λ z. getD entry z false) y
+
+-- what a chain of steps may reach from the marked rows, by its axes and tests alone, is marked; every row it comes by is near,
+-- besides those that were
+pub record Covered (t : List ℕ) (s : Tree) (entry exit before after : List Bool) : Type 0 where
+  pub reached : (y : ℕ) → y < rows t → getD exit y false ≡ ahead t s (λ x. getD entry x false) y
+  pub kept : (y : ℕ) → y < rows t → getD before y false ≡ true → getD after y false ≡ true
+  pub covers : Covers t (λ y. getD after y false) s (λ x. getD entry x false)

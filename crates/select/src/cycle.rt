@@ -1,15 +1,16 @@
 // The cycle: an expression, a chain of predicates, a step, a chain of steps, a path, and how many nodes it selects; and the
 // same over whole sets, where no position is counted: a step, a chain of predicates, a truth, and a chain of steps backwards.
 // Each call goes to a lower row, but for those within one step, one truth and one path; so links, with room for three calls at
-// the same link, bound the depth. Large arrays stand where a path is entered, and are lent to all below.
+// the same link, bound the depth. Large arrays stand where no chain repeats a frame: once for each path inside a path.
 use crate::MOST_ROWS;
 use crate::candidates::list_candidates;
+use crate::cover::cover;
 use crate::marks::add_marks;
-use crate::marks::clear_marks;
 use crate::marks::copy_marks;
 use crate::marks::count_marks;
+use crate::marks::meet;
 use crate::marks::sift;
-use crate::marks::start_marks;
+use crate::marks::start_mark;
 use crate::values::apply;
 use crate::values::float_of;
 use crate::values::is_over_path;
@@ -22,7 +23,8 @@ use basics::wide;
 use meaning::Context;
 use meaning::Value;
 use path::counting::counting;
-use path::counting::goes_forward;
+use path::counting::counts;
+use path::counting::is_heavy;
 use path::field_at;
 use path::first_link;
 use path::index_or_axis;
@@ -31,10 +33,9 @@ use path::second_link;
 use path::test_at;
 use reach::reach;
 use sieve::choose;
-use sieve::enter;
 use sieve::exchange;
-use sieve::leave;
 use sieve::recast;
+use sieve::retain;
 use sieve::settle;
 use sieve::settle_all;
 use table::row_count;
@@ -54,7 +55,7 @@ ghost use Rattle.meaning.proofs.Free.{true-at};
 ghost use Rattle.meaning.proofs.Backward.{backs};
 ghost use Rattle.sieve.specs.Sieve.{Sieved, Bounded};
 ghost use Rattle.select.specs.Ready.{Ready};
-ghost use Rattle.select.specs.Sets.{Narrowed, Led, LedBy};
+ghost use Rattle.select.specs.Sets.{Narrowed, Thinned, Led, LedBy};
 
 // The value of the expression that a link names, in a context.
 fn expression(table: &[u32], path: &[u32], literals: &[f64], link: usize, context: Context) -> Value
@@ -151,7 +152,7 @@ fn spread(
     add_marks(list, m, next);
 }
 
-// Takes one step from every marked node: next is the union of what they reach.
+// Takes one step from every marked node: then the union of what they reach is marked.
 fn step(
     table: &[u32],
     path: &[u32],
@@ -159,22 +160,32 @@ fn step(
     link: usize,
     axis: usize,
     test: usize,
-    marks: &[bool],
-    next: &mut [bool],
-    list: &mut [u32],
+    marks: &mut [bool],
 )
-    requires { ⌜ Ready (now table) link ⌝ ∗ ⌜ (length (now marks) ≡ mostRows) × (length (now next) ≡ mostRows) × (length (now list) ≡ mostRows) ⌝ }
-    ensures { λ _. ⌜ listed (now (table .entry)) (now (next .exit)) ≡ Meaning.union (now (table .entry)) (stepTo (now (table .entry)) (now (literals .entry)) (now (path .entry)) link axis test) (listed (now (table .entry)) (now (marks .entry))) ⌝ }
+    requires { ⌜ Ready (now table) link ⌝ ∗ ⌜ length (now marks) ≡ mostRows ⌝ }
+    ensures { λ _. ⌜ listed (now (table .entry)) (now (marks .exit)) ≡ Meaning.union (now (table .entry)) (stepTo (now (table .entry)) (now (literals .entry)) (now (path .entry)) link axis test) (listed (now (table .entry)) (now (marks .entry))) ⌝ }
 {
-    clear_marks(next);
     let n = row_count(table);
+    let mut next = [false; MOST_ROWS];
+    let mut list = [0u32; MOST_ROWS];
     let mut x = 0;
     while x < n {
         if marks[x] {
-            spread(table, path, literals, link, axis, test, x, next, list);
+            spread(
+                table,
+                path,
+                literals,
+                link,
+                axis,
+                test,
+                x,
+                &mut next,
+                &mut list,
+            );
         }
         x += 1;
     }
+    copy_marks(table, &next, marks);
 }
 
 // Decides the truth that a link names for the active rows, one by one.
@@ -252,7 +263,7 @@ fn decide_not(
     exchange(states, row_count(table), active);
 }
 
-// Takes one step back: from the marked nodes that pass the test and hold to those whose axis they are on.
+// Takes one step back: from the marked nodes that are near, pass the test and hold to those whose axis they are on.
 fn step_back(
     table: &[u32],
     path: &[u32],
@@ -260,34 +271,31 @@ fn step_back(
     link: usize,
     axis: usize,
     test: usize,
+    near: &[bool],
     marks: &mut [bool],
-    next: &mut [bool],
-    states: &mut [u16],
-    seen: &mut [bool],
 )
-    requires { ⌜ Ready (now table) link ⌝ ∗ ⌜ (length (now marks) ≡ mostRows) × (length (now next) ≡ mostRows) × (length (now states) ≡ mostRows) × (length (now seen) ≡ mostRows) ⌝ }
-    ensures { λ _. ⌜ LedBy (now (table .entry)) (now (literals .entry)) (tree (now (path .entry)) link) axis test (now (marks .entry)) (now (marks .exit)) ⌝ }
+    requires { ⌜ Ready (now table) link ⌝ ∗ ⌜ (length (now near) ≡ mostRows) × (length (now marks) ≡ mostRows) ⌝ }
+    ensures { λ _. ⌜ LedBy (now (table .entry)) (now (literals .entry)) (now (near .entry)) (tree (now (path .entry)) link) axis test (now (marks .entry)) (now (marks .exit)) ⌝ }
 {
-    sift(table, test, marks, next);
-    narrow(table, path, literals, link, next, states);
+    meet(table, near, marks);
+    sift(table, test, marks);
+    narrow(table, path, literals, link, marks);
     let inverse = inverse_axis(axis);
-    reach(table, inverse, next, marks, seen);
+    reach(table, inverse, marks);
 }
 
 // Takes the chain of steps that a link names backwards, the last of them first: from the marked nodes to those from which it
-// leads to one of them.
+// leads to one of them, over nodes that are near alone.
 fn back(
     table: &[u32],
     path: &[u32],
     literals: &[f64],
     link: usize,
+    near: &[bool],
     marks: &mut [bool],
-    next: &mut [bool],
-    states: &mut [u16],
-    seen: &mut [bool],
 )
-    requires { ⌜ Ready (now table) link ⌝ ∗ ⌜ (length (now marks) ≡ mostRows) × (length (now next) ≡ mostRows) × (length (now states) ≡ mostRows) × (length (now seen) ≡ mostRows) ⌝ }
-    ensures { λ _. ⌜ Led (now (table .entry)) (now (literals .entry)) (tree (now (path .entry)) link) (now (marks .entry)) (now (marks .exit)) ⌝ }
+    requires { ⌜ Ready (now table) link ⌝ ∗ ⌜ (length (now near) ≡ mostRows) × (length (now marks) ≡ mostRows) ⌝ }
+    ensures { λ _. ⌜ Led (now (table .entry)) (now (literals .entry)) (now (near .entry)) (tree (now (path .entry)) link) (now (marks .entry)) (now (marks .exit)) ⌝ }
 {
     if link == 0 {
         return;
@@ -296,23 +304,13 @@ fn back(
     let tests = second_link(path, row);
     let axis = index_or_axis(path, row);
     let test = test_at(path, row);
-    step_back(
-        table,
-        path,
-        literals,
-        tests,
-        axis,
-        test,
-        marks,
-        next,
-        states,
-        seen,
-    );
+    step_back(table, path, literals, tests, axis, test, near, marks);
     let before = first_link(path, row);
-    back(table, path, literals, before, marks, next, states, seen);
+    back(table, path, literals, before, near, marks);
 }
 
-// Decides for the active rows whether the chain of steps that a link names leads from them to any node: backwards from all.
+// Decides for the active rows whether the chain of steps that a link names leads from them to any node: backwards from all,
+// or, where its predicates need a look at each node, from those that it may come by.
 fn decide_back(
     table: &[u32],
     path: &[u32],
@@ -324,25 +322,20 @@ fn decide_back(
     requires { ⌜ Ready (now table) link ⌝ ∗ ⌜ (active ≤ 1000) × (length (now states) ≡ mostRows) ⌝ }
     ensures { λ _. ⌜ Sieved (backs (now (table .entry)) (now (literals .entry)) (tree (now (path .entry)) link) (λ z. true)) active (rows (now (table .entry))) (now (states .entry)) (now (states .exit)) ⌝ }
 {
+    let n = row_count(table);
+    let heavy = is_heavy(path, link);
+    let mut near = [!heavy; MOST_ROWS];
+    if heavy {
+        let mut reached = [true; MOST_ROWS];
+        retain(states, active, &mut reached, n);
+        cover(table, path, link, &mut reached, &mut near);
+    }
     let mut marks = [true; MOST_ROWS];
-    let mut next = [false; MOST_ROWS];
-    let mut own = [0u16; MOST_ROWS];
-    let mut seen = [false; MOST_ROWS];
-    back(
-        table,
-        path,
-        literals,
-        link,
-        &mut marks,
-        &mut next,
-        &mut own,
-        &mut seen,
-    );
-    settle(states, &marks, row_count(table), active);
+    back(table, path, literals, link, &near, &mut marks);
+    settle(states, &marks, n, active);
 }
 
-// Decides an existence: of an absolute path once for all rows, of a relative path backwards, or row by row where a step counts
-// or going back would look at more nodes than it must.
+// Decides an existence: of an absolute path once for all rows, of a relative path backwards, or row by row where a step counts.
 fn decide_path(
     table: &[u32],
     path: &[u32],
@@ -367,7 +360,7 @@ fn decide_path(
         return;
     }
     let steps = first_link(path, top);
-    if goes_forward(path, steps) {
+    if counts(path, steps) {
         decide_each(table, path, literals, link, active, states);
         return;
     }
@@ -401,29 +394,36 @@ fn decide(
     }
 }
 
-// Of the marked nodes those stay marked at which the predicates of the chain that a link names hold, whatever their position.
-fn narrow(
-    table: &[u32],
-    path: &[u32],
-    literals: &[f64],
-    link: usize,
-    marks: &mut [bool],
-    states: &mut [u16],
-)
-    requires { ⌜ Ready (now table) link ⌝ ∗ ⌜ (length (now marks) ≡ mostRows) × (length (now states) ≡ mostRows) ⌝ }
-    ensures { λ _. ⌜ Narrowed (now (table .entry)) (now (literals .entry)) (tree (now (path .entry)) link) (now (marks .entry)) (now (marks .exit)) ⌝ }
+// Of the rows that are active at the first level those stay so at which the predicates of the chain that a link names hold,
+// whatever their position: what the predicates before it left out, state 3, is left out of its own truth.
+fn thin(table: &[u32], path: &[u32], literals: &[f64], link: usize, states: &mut [u16])
+    requires { ⌜ Ready (now table) link ⌝ ∗ ⌜ length (now states) ≡ mostRows ⌝ ∗ ⌜ Bounded (rows (now table)) 3 (now states) ⌝ }
+    ensures { λ _. ⌜ Thinned (now (table .entry)) (now (literals .entry)) (tree (now (path .entry)) link) (now (states .entry)) (now (states .exit)) × Bounded (rows (now (table .entry))) 3 (now (states .exit)) ⌝ }
 {
     if link == 0 {
         return;
     }
     let row = link - 1;
     let before = first_link(path, row);
-    narrow(table, path, literals, before, marks, states);
+    thin(table, path, literals, before, states);
     let held = second_link(path, row);
-    let n = row_count(table);
-    enter(marks, states, n);
+    recast(states, row_count(table), 3, 0);
     decide(table, path, literals, held, 2, states);
-    leave(states, marks, n);
+}
+
+// Of the marked nodes those stay marked at which the predicates of the chain that a link names hold, whatever their position.
+fn narrow(table: &[u32], path: &[u32], literals: &[f64], link: usize, marks: &mut [bool])
+    requires { ⌜ Ready (now table) link ⌝ ∗ ⌜ length (now marks) ≡ mostRows ⌝ }
+    ensures { λ _. ⌜ Narrowed (now (table .entry)) (now (literals .entry)) (tree (now (path .entry)) link) (now (marks .entry)) (now (marks .exit)) ⌝ }
+{
+    if link == 0 {
+        return;
+    }
+    let n = row_count(table);
+    let mut states = [2u16; MOST_ROWS];
+    settle(&mut states, marks, n, 2);
+    thin(table, path, literals, link, &mut states);
+    retain(&states, 2, marks, n);
 }
 
 // Takes one step that does not count from all marked nodes at once.
@@ -435,31 +435,18 @@ fn stride(
     axis: usize,
     test: usize,
     marks: &mut [bool],
-    next: &mut [bool],
-    states: &mut [u16],
-    seen: &mut [bool],
 )
-    requires { ⌜ Ready (now table) link ⌝ ∗ ⌜ (length (now marks) ≡ mostRows) × (length (now next) ≡ mostRows) × (length (now states) ≡ mostRows) × (length (now seen) ≡ mostRows) ⌝ ∗ ⌜ turning.counting (tree (now path) link) ≡ false ⌝ }
+    requires { ⌜ Ready (now table) link ⌝ ∗ ⌜ length (now marks) ≡ mostRows ⌝ ∗ ⌜ turning.counting (tree (now path) link) ≡ false ⌝ }
     ensures { λ _. ⌜ listed (now (table .entry)) (now (marks .exit)) ≡ Meaning.union (now (table .entry)) (stepTo (now (table .entry)) (now (literals .entry)) (now (path .entry)) link axis test) (listed (now (table .entry)) (now (marks .entry))) ⌝ }
 {
-    reach(table, axis, marks, next, seen);
-    sift(table, test, next, marks);
-    narrow(table, path, literals, link, marks, states);
+    reach(table, axis, marks);
+    sift(table, test, marks);
+    narrow(table, path, literals, link, marks);
 }
 
 // Takes the chain of steps that a link names from the marked nodes, the first of them first, and marks what it reaches.
-fn walk(
-    table: &[u32],
-    path: &[u32],
-    literals: &[f64],
-    link: usize,
-    marks: &mut [bool],
-    next: &mut [bool],
-    list: &mut [u32],
-    states: &mut [u16],
-    seen: &mut [bool],
-)
-    requires { ⌜ Ready (now table) link ⌝ ∗ ⌜ (length (now marks) ≡ mostRows) × (length (now next) ≡ mostRows) × (length (now list) ≡ mostRows) × (length (now states) ≡ mostRows) × (length (now seen) ≡ mostRows) ⌝ }
+fn walk(table: &[u32], path: &[u32], literals: &[f64], link: usize, marks: &mut [bool])
+    requires { ⌜ Ready (now table) link ⌝ ∗ ⌜ length (now marks) ≡ mostRows ⌝ }
     ensures { λ _. ⌜ listed (now (table .entry)) (now (marks .exit)) ≡ Meaning.walk (now (table .entry)) (now (literals .entry)) (tree (now (path .entry)) link) (listed (now (table .entry)) (now (marks .entry))) ⌝ }
 {
     if link == 0 {
@@ -467,40 +454,18 @@ fn walk(
     }
     let last = link - 1;
     let before = first_link(path, last);
-    walk(
-        table,
-        path,
-        literals,
-        before,
-        marks,
-        next,
-        list,
-        states,
-        seen,
-    );
+    walk(table, path, literals, before, marks);
     let tests = second_link(path, last);
     let axis = index_or_axis(path, last);
     let test = test_at(path, last);
     if counting(path, tests) {
-        step(table, path, literals, tests, axis, test, marks, next, list);
-        copy_marks(next, marks);
+        step(table, path, literals, tests, axis, test, marks);
         return;
     }
-    stride(
-        table,
-        path,
-        literals,
-        tests,
-        axis,
-        test,
-        marks,
-        next,
-        states,
-        seen,
-    );
+    stride(table, path, literals, tests, axis, test, marks);
 }
 
-// Marks what the path that a link names selects from a node.
+// Marks what the path that a link names selects from a node, where nothing is marked yet.
 pub fn select(
     table: &[u32],
     path: &[u32],
@@ -509,31 +474,16 @@ pub fn select(
     start: usize,
     marks: &mut [bool],
 )
-    requires { ⌜ Ready (now table) link ⌝ ∗ ⌜ length (now marks) ≡ mostRows ⌝ }
+    requires { ⌜ Ready (now table) link ⌝ ∗ ⌜ length (now marks) ≡ mostRows ⌝ ∗ ⌜ ((y : ℕ) → getD (now marks) y false ≡ false) ⌝ }
     ensures { λ _. ⌜ listed (now (table .entry)) (now (marks .exit)) ≡ Meaning.select (now (table .entry)) (now (literals .entry)) (tree (now (path .entry)) link) start ⌝ }
 {
     if link == 0 {
-        clear_marks(marks);
         return;
     }
     let top = link - 1;
-    start_marks(table, field_at(path, top, 0), start, marks);
+    start_mark(table, field_at(path, top, 0), start, marks);
     let steps = first_link(path, top);
-    let mut next = [false; MOST_ROWS];
-    let mut list = [0u32; MOST_ROWS];
-    let mut states = [0u16; MOST_ROWS];
-    let mut seen = [false; MOST_ROWS];
-    walk(
-        table,
-        path,
-        literals,
-        steps,
-        marks,
-        &mut next,
-        &mut list,
-        &mut states,
-        &mut seen,
-    );
+    walk(table, path, literals, steps, marks);
 }
 
 // How many nodes the path that a link names selects from a node.

@@ -1,5 +1,6 @@
 // The evaluator: what a path selects from a node of a table (document 01, "Meaning" and "Numbers given back").
 mod candidates;
+mod cover;
 mod cycle;
 mod marks;
 mod values;

@@ -1,5 +1,6 @@
 // A set of nodes as marks: mark y says whether node y is in the set. Lists of nodes are the marked rows, ascending.
 use basics::both;
+use basics::either;
 use basics::wide;
 use table::axes::passes_test;
 use table::row_count;
@@ -13,28 +14,16 @@ ghost use Rattle.meaning.specs.Table.{rows, mostRows};
 ghost use Rattle.meaning.specs.Rows.{opOf};
 ghost use Rattle.meaning.specs.Meaning.{startOf};
 ghost use Rattle.meaning.proofs.Marks.{listed};
-ghost use Rattle.select.specs.Sets.{Sifted};
+ghost use Rattle.select.specs.Sets.{Sifted, Met, Joined};
 
-pub fn clear_marks(marks: &mut [bool])
-    ensures { λ _. ⌜ ((y : ℕ) → getD (now (marks .exit)) y false ≡ false) ⌝ }
-{
-    let mut i = 0;
-    while i < marks.len() {
-        marks[i] = false;
-        i += 1;
-    }
-}
-
-// Marks the start of a path of this op alone.
-pub fn start_marks(table: &[u32], op: usize, start: usize, marks: &mut [bool])
-    requires { ⌜ rows (now table) ≤ length (now marks) ⌝ }
+// Marks the start of a path of this op, where nothing is marked yet.
+pub fn start_mark(table: &[u32], op: usize, start: usize, marks: &mut [bool])
+    requires { ⌜ rows (now table) ≤ length (now marks) ⌝ ∗ ⌜ ((y : ℕ) → getD (now marks) y false ≡ false) ⌝ }
     ensures { λ _. ⌜ listed (now (table .entry)) (now (marks .exit)) ≡ startOf (now (table .entry)) (opOf op) start ⌝ }
 {
     let x = if op == 23 { 0 } else { start };
-    let mut i = 0;
-    while i < marks.len() {
-        marks[i] = x == i;
-        i += 1;
+    if x < marks.len() {
+        marks[x] = true;
     }
 }
 
@@ -53,26 +42,54 @@ pub fn add_marks(list: &[u32], n: usize, marks: &mut [bool])
     }
 }
 
-pub fn copy_marks(from: &[bool], to: &mut [bool])
-    requires { ⌜ length (now to) ≡ length (now from) ⌝ }
-    ensures { λ _. ⌜ now (to .exit) ≡ now (from .entry) ⌝ }
+// The rows that are marked in one set, and no others, are marked in the other.
+pub fn copy_marks(table: &[u32], from: &[bool], to: &mut [bool])
+    requires { ⌜ (rows (now table) ≤ length (now from)) × (rows (now table) ≤ length (now to)) ⌝ }
+    ensures { λ _. ⌜ listed (now (table .entry)) (now (to .exit)) ≡ listed (now (table .entry)) (now (from .entry)) ⌝ }
 {
+    let n = row_count(table);
     let mut i = 0;
-    while i < to.len() {
+    while i < n {
         to[i] = from[i];
         i += 1;
     }
 }
 
-// Of the marked rows those that pass the test.
-pub fn sift(table: &[u32], test: usize, from: &[bool], to: &mut [bool])
-    requires { ⌜ (rows (now table) ≤ mostRows) × (rows (now table) ≤ length (now from)) × (rows (now table) ≤ length (now to)) ⌝ }
-    ensures { λ _. ⌜ Sifted (now (table .entry)) test (now (from .entry)) (now (to .exit)) ⌝ }
+// Of the marked rows those stay marked that pass the test.
+pub fn sift(table: &[u32], test: usize, marks: &mut [bool])
+    requires { ⌜ (rows (now table) ≤ mostRows) × (rows (now table) ≤ length (now marks)) ⌝ }
+    ensures { λ _. ⌜ Sifted (now (table .entry)) test (now (marks .entry)) (now (marks .exit)) ⌝ }
 {
     let n = row_count(table);
     let mut i = 0;
     while i < n {
-        to[i] = both(from[i], passes_test(table, test, i));
+        marks[i] = both(marks[i], passes_test(table, test, i));
+        i += 1;
+    }
+}
+
+// Of the marked rows those stay marked that are marked in the other set too.
+pub fn meet(table: &[u32], others: &[bool], marks: &mut [bool])
+    requires { ⌜ (rows (now table) ≤ length (now others)) × (rows (now table) ≤ length (now marks)) ⌝ }
+    ensures { λ _. ⌜ Met (now (table .entry)) (now (others .entry)) (now (marks .entry)) (now (marks .exit)) ⌝ }
+{
+    let n = row_count(table);
+    let mut i = 0;
+    while i < n {
+        marks[i] = both(marks[i], others[i]);
+        i += 1;
+    }
+}
+
+// The rows that are marked in the other set are marked too.
+pub fn join(table: &[u32], others: &[bool], marks: &mut [bool])
+    requires { ⌜ (rows (now table) ≤ length (now others)) × (rows (now table) ≤ length (now marks)) ⌝ }
+    ensures { λ _. ⌜ Joined (now (table .entry)) (now (others .entry)) (now (marks .entry)) (now (marks .exit)) ⌝ }
+{
+    let n = row_count(table);
+    let mut i = 0;
+    while i < n {
+        marks[i] = either(marks[i], others[i]);
         i += 1;
     }
 }

@@ -12,7 +12,7 @@ use lib.Seq.{getD-set-same, getD-set-other}
 use native.Mathlib.Omega.{arith}
 use borrow.Author.Tests.{eq-eqb, ne-eqb, lt-ltb, le-ltb}
 use Rattle.meaning.proofs.Bools.{eq-or-ne, lt-or-ge}
-use Rattle.sieve.specs.Sieve.{state, recastOf, exchangedOf, sievedOf, Became, BecameTo, Recast, Exchanged, Sieved, SievedTo, Bounded, Entered, Left}
+use Rattle.sieve.specs.Sieve.{state, recastOf, exchangedOf, sievedOf, Became, BecameTo, Recast, Exchanged, Sieved, SievedTo, Bounded, Retained}
 
 -- ---- one state after the other
 
@@ -183,10 +183,13 @@ module _ (active n : ℕ) (entry : List ℕ) where
       | inr q ↦ rw (recast-miss active (active + 1) (state entry y) q, sieved-miss false active (state entry y) q)
     ]
 
-    -- truths that agree on the rows are decided alike
-    pub sieved-agree : (f g : ℕ → Bool) → Sieved f active n entry exit → ((y : ℕ) → y < n → f y ≡ g y) → Sieved g active n entry exit
+    -- truths that agree on the active rows are decided alike
+    pub sieved-agree : (f g : ℕ → Bool) → Sieved f active n entry exit → ((y : ℕ) → y < n → state entry y ≡ active → f y ≡ g y) → Sieved g active n entry exit
     unfolding Sieved Became
-    sieved-agree f g h e y l = rw (← e y l) (h y l)
+    sieved-agree f g h e y l = h y l ∙ elim (eq-or-ne (state entry y) active) [
+      | inl q ↦ rw (e y l q)
+      | inr q ↦ rw (sieved-miss (f y) active (state entry y) q, sieved-miss (g y) active (state entry y) q)
+    ]
 
 -- ---- bounds
 
@@ -219,21 +222,61 @@ module _ (n : ℕ) (entry exit : List ℕ) where
 
 -- ---- from marks to states and back
 
--- nothing is above the first level
-pub entered-bounded : (n : ℕ) (marks : List Bool) (states : List ℕ) → Entered n marks states → Bounded n 2 states
-unfolding Entered Bounded
-entered-bounded n marks states h y l = rw (h y l) (by (getD marks y false))
+-- what is active after deciding was active and passes
+active-of : (a : Bool) (active s : ℕ) → eqb (sievedOf a active s) active ≡ (eqb s active && a)
+active-of a active s = elim (eq-or-ne s active) [
+  | inl q ↦ rw (sieved-hit a active s q, eq-eqb s active q) (by a)
+  | inr q ↦ rw (sieved-miss a active s q, ne-eqb s active q)
+]
   where
-    by : (b : Bool) → cond b 2 0 ≤ 2
-    by true = omega arith
-    by false = omega arith
+    by : (a : Bool) → eqb (cond a active (active + 1)) active ≡ a
+    by true = eq-eqb active active refl
+    by false = ne-eqb (active + 1) active (λ e. omega arith)
 
--- of the marked rows those stay marked at which the truth holds
-pub narrowed : (n : ℕ) (f : ℕ → Bool) (entry exit : List Bool) (before after : List ℕ) → Entered n entry before → Sieved f 2 n before after → Left n after exit → (y : ℕ) → y < n → getD exit y false ≡ (getD entry y false && f y)
-unfolding Entered Sieved Became Left
-narrowed n f entry exit before after h s k y l = rw (k y l, s y l, h y l) (by (getD entry y false) (f y))
-  where
-    by : (a b : Bool) → eqb (sievedOf b 2 (cond a 2 0)) 2 ≡ (a && b)
-    by true true = unfold sievedOf in refl
-    by true false = unfold sievedOf in refl
-    by false b = unfold sievedOf in refl
+-- putting out the failing states, 3, leaves those active at the first level, 2
+put-out-of : (s : ℕ) → eqb (recastOf 3 0 s) 2 ≡ eqb s 2
+put-out-of s = elim (eq-or-ne s 3) [
+  | inl q ↦ rw (recast-hit 3 0 s q, q)
+  | inr q ↦ rw (recast-miss 3 0 s q)
+]
+
+-- and leaves none above it
+put-out-most : (s : ℕ) → s ≤ 3 → recastOf 3 0 s ≤ 2
+put-out-most s l = elim (eq-or-ne s 3) [
+  | inl q ↦ rw (recast-hit 3 0 s q) (omega arith)
+  | inr q ↦ rw (recast-miss 3 0 s q) (omega (arith, q))
+]
+
+module _ (n : ℕ) where
+  -- failing states are put out, then a truth is decided at the first level
+  pub thinned-state : (f : ℕ → Bool) (entry mid exit : List ℕ) → Recast n 3 0 entry mid → Sieved f 2 n mid exit → (y : ℕ) → y < n → eqb (state exit y) 2 ≡ (eqb (state entry y) 2 && f y)
+  unfolding Recast Sieved Became
+  thinned-state f entry mid exit out h y l = rw (h y l, active-of (f y) 2 (state mid y), out y l, put-out-of (state entry y))
+
+  -- no failing state is left
+  pub thinned-bounded : (entry mid : List ℕ) → Bounded n 3 entry → Recast n 3 0 entry mid → Bounded n 2 mid
+  unfolding Recast Became Bounded
+  thinned-bounded entry mid b out y l = rw (out y l) (put-out-most (state entry y) (b y l))
+
+  module _ (marks : List Bool) (entry exit : List ℕ) (all : (y : ℕ) → y < n → state entry y ≡ 2) (h : Sieved (λ y. getD marks y false) 2 n entry exit) where
+    -- where all are active, those stay so that are marked
+    pub settled-marks : (y : ℕ) → y < n → eqb (state exit y) 2 ≡ getD marks y false
+    unfolding Sieved Became
+    settled-marks y l = rw (h y l, active-of (getD marks y false) 2 (state entry y), all y l)
+
+    -- nothing is above the failing states of the first level
+    pub settled-bounded : Bounded n 3 exit
+    settled-bounded = sieved-bounded n entry exit _ 2 h low
+      where
+        low : Bounded n 2 entry
+        low = unfold Bounded in λ y l. rw (all y l) (omega arith)
+
+  -- of the marked rows those stay marked at which g holds, where those are the active ones
+  pub retained-marks : (g : ℕ → Bool) (states : List ℕ) (entry exit : List Bool) → Retained n 2 states entry exit → ((y : ℕ) → y < n → eqb (state states y) 2 ≡ (getD entry y false && g y)) → (y : ℕ) → y < n
+      → getD exit y false ≡ (getD entry y false && g y)
+  unfolding Retained
+  retained-marks g states entry exit h k y l = rw (h y l, k y l) (twice (getD entry y false))
+    where
+      twice : (a : Bool) → (a && (a && g y)) ≡ (a && g y)
+      twice true = refl
+      twice false = refl

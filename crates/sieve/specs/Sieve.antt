@@ -4,7 +4,7 @@
 -- Assumes nothing: these are definitions.
 use Prim.Native.Nat.{ℕ, _+_, _<_, _≤_}
 use mathlib.Core.Path.{_≡_}
-use mathlib.Core.Bool.{Bool, false, cond}
+use mathlib.Core.Bool.{Bool, false, _&&_, cond}
 use mathlib.Core.List.{List}
 use lib.Dec.{ltb, eqb}
 use lib.ListN.{getD}
@@ -53,10 +53,6 @@ SievedTo f active i n = BecameTo (λ y. sievedOf (f y) active) i n
 unfoldable pub Bounded : ℕ → ℕ → List ℕ → Type 0
 Bounded n top states = (y : ℕ) → y < n → state states y ≤ top
 
--- the first n rows are active at the first level, 2, where they are marked, and 0 where they are not
-unfoldable pub Entered : ℕ → List Bool → List ℕ → Type 0
-Entered n marks states = (y : ℕ) → y < n → state states y ≡ cond (getD marks y false) 2 0
-
--- the first n rows are marked where they are active at the first level
-unfoldable pub Left : ℕ → List ℕ → List Bool → Type 0
-Left n states marks = (y : ℕ) → y < n → getD marks y false ≡ eqb (state states y) 2
+-- of the first n rows those stay marked that are active
+unfoldable pub Retained : ℕ → ℕ → List ℕ → List Bool → List Bool → Type 0
+Retained n active states entry exit = (y : ℕ) → y < n → getD exit y false ≡ (getD entry y false && eqb (state states y) active)

@@ -1,11 +1,12 @@
 // Truths decided for all rows of a set at once: a state for each row in one array, so that no nested operand needs a buffer.
 // At nesting level l the rows in question have the state 2l, and all others a lower one; where the truth does not hold the
 // state becomes 2l + 1.
+use basics::both;
 ghost use mathlib.Core.Path.{_≡_};
 ghost use mathlib.Core.Bool.{false, cond};
 ghost use Prim.Native.Nat.{_<_, _≤_};
 ghost use lib.ListN.{length, getD};
-ghost use Rattle.sieve.specs.Sieve.{Recast, Exchanged, Sieved, Entered, Left};
+ghost use Rattle.sieve.specs.Sieve.{Recast, Exchanged, Sieved, Retained};
 
 // One of two states.
 pub fn choose(test: bool, a: u16, b: u16) -> u16
@@ -66,26 +67,14 @@ pub fn settle_all(states: &mut [u16], n: usize, active: u16, truth: bool)
     recast(states, n, active, active + 1);
 }
 
-// The first n rows are active at the first level where they are marked.
-pub fn enter(marks: &[bool], states: &mut [u16], n: usize)
+// Of the first n marks those stay whose row is active.
+pub fn retain(states: &[u16], active: u16, marks: &mut [bool], n: usize)
     requires { ⌜ (n ≤ length (now states)) × (n ≤ length (now marks)) ⌝ }
-    ensures { λ _. ⌜ Entered n (now (marks .entry)) (now (states .exit)) ⌝ }
+    ensures { λ _. ⌜ Retained n active (now (states .entry)) (now (marks .entry)) (now (marks .exit)) ⌝ }
 {
     let mut i = 0;
     while i < n {
-        states[i] = choose(marks[i], 2, 0);
-        i += 1;
-    }
-}
-
-// The first n rows are marked where they are active at the first level.
-pub fn leave(states: &[u16], marks: &mut [bool], n: usize)
-    requires { ⌜ (n ≤ length (now states)) × (n ≤ length (now marks)) ⌝ }
-    ensures { λ _. ⌜ Left n (now (states .entry)) (now (marks .exit)) ⌝ }
-{
-    let mut i = 0;
-    while i < n {
-        marks[i] = states[i] == 2;
+        marks[i] = both(marks[i], states[i] == active);
         i += 1;
     }
 }

@@ -1,4 +1,4 @@
--- `reach::mark_ancestors` meets its contract: a number is above near exactly if it is above a marked row passed; the rows passed are marked exactly if they are reached. The measure is the row.
+-- `reach::mark_ancestors` meets its contract: a number is above near exactly if a marked row passed is below it; the rows passed are marked exactly if they are reached, and the others as they were. The measure is what is left of the rows.
 -- Assumes nothing.
 use Prim.Native.Nat.{_+_, _-_, _<_, _≤_}
 use mathlib.Core.Path.{_≡_, refl, _∙_}
@@ -11,21 +11,21 @@ use borrow.Author.Tests.{le-ltb}
 use Rattle.meaning.specs.Table.{rows}
 use Rattle.meaning.specs.Axis as A
 use Rattle.meaning.proofs.Windows.{upFrom}
-use Rattle.meaning.proofs.Marks.{WroteDown, down-start, down-more}
+use Rattle.meaning.proofs.Marks.{WroteDown, down-start, down-more, down-ahead}
 use Rattle.reach.specs.Reach.{hit, beyond}
 use Rattle.reach.proofs.Sweep.{Gathered, gathered-top, gathered-down, above-hit, down-hits}
 use Rattle.reach.proofs.mark_ancestors.Statement.{statement}
 use Rattle.reach.proofs.mark_ancestors.Tie as tie
 
 abbrev Inv-loop : tie.InvT-loop
-Inv-loop table own from to₀ near₀ i₀ to near i =
+Inv-loop table own marks₀ near₀ i₀ marks near i =
     (i ≤ rows table)
-    × (length to ≡ length to₀)
-    × Gathered (beyond + 1) ltb from (upFrom i (rows table - i)) (λ z. ltb near z)
-    × WroteDown (hit table (cond own A.ancestor-or-self A.ancestor) from) (rows table) to i
+    × (length marks ≡ length marks₀)
+    × Gathered (beyond + 1) ltb marks₀ (upFrom i (rows table - i)) (λ z. ltb near z)
+    × WroteDown (hit table (cond own A.ancestor-or-self A.ancestor) marks₀) (rows table) marks₀ marks i
 
 abbrev μ-loop : tie.MeasureT-loop
-μ-loop table own from to₀ near₀ i₀ to near i = i
+μ-loop table own marks₀ near₀ i₀ marks near i = i
 
 row-count-requires : tie.Need-row-count-requires Inv-loop μ-loop
 row-count-requires c κs = search needs
@@ -36,8 +36,8 @@ loop-holds c = let e = c .row-count .ensures in (omega arith, refl, rw e (gather
 sub-i : tie.Need-sub-i Inv-loop μ-loop
 sub-i c = search needs
 
-shared-slice-read-marked : tie.Need-shared-slice-read-marked Inv-loop μ-loop
-shared-slice-read-marked c = search needs
+slice-read-marked : tie.Need-slice-read-marked Inv-loop μ-loop
+slice-read-marked c = search needs
 
 both-requires : tie.Need-both-requires Inv-loop μ-loop
 both-requires c κs = search needs
@@ -54,8 +54,8 @@ below-requires c κs = search needs
 either-requires : tie.Need-either-requires Inv-loop μ-loop
 either-requires c κs = search needs
 
-slice-write-to : tie.Need-slice-write-to Inv-loop μ-loop
-slice-write-to c = search needs
+slice-write-marks : tie.Need-slice-write-marks Inv-loop μ-loop
+slice-write-marks c = search needs
 
 smaller-if-requires : tie.Need-smaller-if-requires Inv-loop μ-loop
 smaller-if-requires c κs = search needs
@@ -67,24 +67,25 @@ loop-again : tie.Need-loop-again Inv-loop μ-loop
 loop-again c =
     let ei = c .before in
     let lo = ei .before .before .before .before .before .before in
-    let st = lo .before .before .before .before .before in
+    let st = lo .before .before .before .before in
     let inv = lo .loop .inv in
     let i = lo .loop .i in
     let n = rows (st .args .table .now) in
     let back : i ≡ i - 1 + 1 = omega arith in
     let low : i - 1 < n = omega arith in
-    let after : Gathered (beyond + 1) ltb (st .args .from .now) (upFrom (i - 1 + 1) (n - (i - 1 + 1))) (λ z. ltb (lo .loop .near) z) = rw (← back) (inv .2) in (
+    let old = down-ahead _ _ _ _ _ (i - 1) (inv .3) (omega arith) low in
+    let after : Gathered (beyond + 1) ltb (st .args .marks .now) (upFrom (i - 1 + 1) (n - (i - 1 + 1))) (λ z. ltb (lo .loop .near) z) = rw (← back) (inv .2) in (
       omega arith,
       simp length-set (inv .1),
-      gathered-down _ _ _ n (i - 1) _ _ low after (λ y l. c .smaller-if .ensures y),
-      down-more (hit (st .args .table .now) (cond (st .args .own) A.ancestor-or-self A.ancestor) (st .args .from .now)) n (lo .loop .to) (i - 1) _ (rw (← back) (inv .3)) (omega arith) (ei .either .ensures ∙ rw (ei .before .below .ensures, ei .before .before .end-at .ensures .0, ei .before .before .before .both .ensures) (above-hit _ _ _ low (st .args .own) _ after (omega (arith, ei .before .before .end-at .ensures)))),
+      gathered-down _ _ _ n (i - 1) _ _ low after (λ y l. c .smaller-if .ensures y ∙ rw old),
+      down-more _ n (st .args .marks .now) (lo .loop .marks) (i - 1) _ (rw (← back) (inv .3)) (omega arith) (ei .either .ensures ∙ rw (ei .before .below .ensures, ei .before .before .end-at .ensures .0, ei .before .before .before .both .ensures, old) (above-hit _ _ _ low (st .args .own) _ after (omega (arith, ei .before .before .end-at .ensures)))),
     )
 
 same-length : tie.Need-same-length Inv-loop μ-loop
 same-length c = search needs
 
 returns : tie.Need-returns Inv-loop μ-loop
-returns c = down-hits _ _ _ _ _ (let e : c .before .loop .i ≡ 0 = omega arith in rw e at (c .before .loop .inv .3)) refl
+returns c = down-hits _ _ _ _ _ (let e : c .before .loop .i ≡ 0 = omega arith in rw (← e) (c .before .loop .inv .3)) refl
 
 pub mark-ancestors-spec : {M : Type 1} → statement M
 mark-ancestors-spec =
@@ -95,13 +96,13 @@ mark-ancestors-spec =
     row-count-requires
     loop-holds
     sub-i
-    shared-slice-read-marked
+    slice-read-marked
     both-requires
     end-at-requires
     add-below
     below-requires
     either-requires
-    slice-write-to
+    slice-write-marks
     smaller-if-requires
     loop-less
     loop-again

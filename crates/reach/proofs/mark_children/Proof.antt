@@ -1,33 +1,35 @@
--- `reach::mark_children` meets its contract: the rows passed are marked exactly if they are children of a marked row; parents are rows, so their marks can be read. The measure is what is left of the rows.
+-- `reach::mark_children` meets its contract: the rows passed are marked exactly if their parent was, whose mark is not written yet, since no parent stands after its child. The measure is what is left of the rows.
 -- Assumes nothing.
-use Prim.Native.Nat.{_-_, _<_, _≤_}
+use Prim.Native.Nat.{_+_, _-_, _<_, _≤_}
 use mathlib.Core.Path.{_≡_, refl, _∙_}
 use lib.ListN.{length, length-set}
 use native.Mathlib.Omega.{arith}
 use borrow.Author.Needs.{needs}
 use Rattle.meaning.specs.Table.{rows}
 use Rattle.meaning.specs.Axis as A
-use Rattle.meaning.proofs.Marks.{Wrote, wrote-start, wrote-more}
+use Rattle.meaning.proofs.Marks.{WroteDown, down-start, down-more, down-ahead}
 use Rattle.reach.specs.Reach.{hit}
-use Rattle.reach.proofs.Sweep.{rooted, child-hit, up-hits}
+use Rattle.reach.proofs.Sweep.{rooted, child-hit, down-hits}
 use Rattle.reach.proofs.mark_children.Statement.{statement}
 use Rattle.reach.proofs.mark_children.Tie as tie
 
 abbrev Inv-loop : tie.InvT-loop
-Inv-loop table from to₀ n i₀ to i =
-    (i ≤ n)
-    × (n ≡ rows table)
-    × (length to ≡ length to₀)
-    × Wrote (hit table A.child from) to i
+Inv-loop table marks₀ i₀ marks i =
+    (i ≤ rows table)
+    × (length marks ≡ length marks₀)
+    × WroteDown (hit table A.child marks₀) (rows table) marks₀ marks i
 
 abbrev μ-loop : tie.MeasureT-loop
-μ-loop table from to₀ n i₀ to i = n - i
+μ-loop table marks₀ i₀ marks i = i
 
 row-count-requires : tie.Need-row-count-requires Inv-loop μ-loop
 row-count-requires c κs = search needs
 
 loop-holds : tie.Need-loop-holds Inv-loop μ-loop
-loop-holds c = (omega arith, c .row-count .ensures, refl, wrote-start _ _)
+loop-holds c = let e = c .row-count .ensures in (omega arith, refl, rw e (down-start _ _ _))
+
+sub-i : tie.Need-sub-i Inv-loop μ-loop
+sub-i c = search needs
 
 parent-at-requires : tie.Need-parent-at-requires Inv-loop μ-loop
 parent-at-requires c κs = search needs
@@ -35,42 +37,43 @@ parent-at-requires c κs = search needs
 below-requires : tie.Need-below-requires Inv-loop μ-loop
 below-requires c κs = search needs
 
-shared-slice-read-both : tie.Need-shared-slice-read-both Inv-loop μ-loop
-shared-slice-read-both c =
+slice-read-both : tie.Need-slice-read-both Inv-loop μ-loop
+slice-read-both c =
     let lo = c .before .before .before .before in
-    let st = lo .before .before .before .before .before in
-    let low : lo .loop .i < rows (st .args .table .now) = omega arith in
+    let st = lo .before .before .before .before in
+    let low : lo .loop .i - 1 < rows (st .args .table .now) = omega arith in
     omega (arith, rooted _ (st .pre .parents) _ low)
 
 both-requires : tie.Need-both-requires Inv-loop μ-loop
 both-requires c κs = search needs
 
-slice-write-to : tie.Need-slice-write-to Inv-loop μ-loop
-slice-write-to c = search needs
-
-add-i : tie.Need-add-i Inv-loop μ-loop
-add-i c = search needs
+slice-write-marks : tie.Need-slice-write-marks Inv-loop μ-loop
+slice-write-marks c = search needs
 
 loop-less : tie.Need-loop-less Inv-loop μ-loop
 loop-less c = search needs
 
 loop-again : tie.Need-loop-again Inv-loop μ-loop
 loop-again c =
-    let lo = c .before .before .before .before .before in
-    let st = lo .before .before .before .before .before in
+    let pa = c .before .before .before in
+    let lo = pa .before .before in
+    let st = lo .before .before .before .before in
     let inv = lo .loop .inv in
-    let low : lo .loop .i < rows (st .args .table .now) = omega arith in (
+    let i = lo .loop .i in
+    let n = rows (st .args .table .now) in
+    let back : i ≡ i - 1 + 1 = omega arith in
+    let low : i - 1 < n = omega arith in
+    let old = down-ahead _ _ _ _ _ (pa .parent-at .result) (inv .2) (omega (arith, rooted _ (st .pre .parents) _ low)) (omega (arith, rooted _ (st .pre .parents) _ low)) in (
       omega arith,
-      inv .1,
-      simp length-set (inv .2),
-      wrote-more _ _ _ _ (inv .3) (omega arith) (c .both .ensures ∙ rw (c .before .before .below .ensures, c .before .before .before .parent-at .ensures .0) (child-hit _ _ _ low (st .pre .parents))),
+      simp length-set (inv .1),
+      down-more _ n (st .args .marks .now) (lo .loop .marks) (i - 1) _ (rw (← back) (inv .2)) (omega arith) (c .both .ensures ∙ rw (c .before .before .below .ensures, old, pa .parent-at .ensures .0) (child-hit _ _ _ low (st .pre .parents))),
     )
 
 same-length : tie.Need-same-length Inv-loop μ-loop
 same-length c = search needs
 
 returns : tie.Need-returns Inv-loop μ-loop
-returns c = up-hits _ _ _ _ _ (c .before .loop .inv .3) (omega arith)
+returns c = down-hits _ _ _ _ _ (let e : c .before .loop .i ≡ 0 = omega arith in rw (← e) (c .before .loop .inv .2)) refl
 
 pub mark-children-spec : {M : Type 1} → statement M
 mark-children-spec =
@@ -80,12 +83,12 @@ mark-children-spec =
     μ-loop
     row-count-requires
     loop-holds
+    sub-i
     parent-at-requires
     below-requires
-    shared-slice-read-both
+    slice-read-both
     both-requires
-    slice-write-to
-    add-i
+    slice-write-marks
     loop-less
     loop-again
     same-length

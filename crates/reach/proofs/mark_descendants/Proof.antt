@@ -1,4 +1,4 @@
--- `reach::mark_descendants` meets its contract: a number is below far exactly if it is not past the end of a marked row passed; the rows passed are marked exactly if they are reached. The measure is what is left of the rows.
+-- `reach::mark_descendants` meets its contract: a number is below far exactly if it is not past the end of a marked row passed; the rows passed are marked exactly if they are reached, and the others as they were. The measure is what is left of the rows.
 -- Assumes nothing.
 use Prim.Native.Nat.{_+_, _-_, _<_, _≤_}
 use mathlib.Core.Path.{_≡_, refl, _∙_}
@@ -11,22 +11,22 @@ use borrow.Author.Tests.{le-ltb}
 use Rattle.meaning.specs.Lists.{upTo}
 use Rattle.meaning.specs.Table.{rows, end}
 use Rattle.meaning.specs.Axis as A
-use Rattle.meaning.proofs.Marks.{Wrote, wrote-start, wrote-more}
+use Rattle.meaning.proofs.Marks.{Wrote, wrote-start, wrote-more, wrote-ahead}
 use Rattle.reach.specs.Reach.{hit, beyond}
 use Rattle.reach.proofs.Sweep.{Gathered, gathered-start, gathered-more, below-hit, up-hits}
 use Rattle.reach.proofs.mark_descendants.Statement.{statement}
 use Rattle.reach.proofs.mark_descendants.Tie as tie
 
 abbrev Inv-loop : tie.InvT-loop
-Inv-loop table own from to₀ n far₀ i₀ to far i =
+Inv-loop table own marks₀ n far₀ i₀ marks far i =
     (i ≤ n)
     × (n ≡ rows table)
-    × (length to ≡ length to₀)
-    × Gathered (beyond + 1) (λ x z. ltb z (end table x + 1)) from (upTo i) (λ z. ltb z far)
-    × Wrote (hit table (cond own A.descendant-or-self A.descendant) from) to i
+    × (length marks ≡ length marks₀)
+    × Gathered (beyond + 1) (λ x z. ltb z (end table x + 1)) marks₀ (upTo i) (λ z. ltb z far)
+    × Wrote (hit table (cond own A.descendant-or-self A.descendant) marks₀) marks₀ marks i
 
 abbrev μ-loop : tie.MeasureT-loop
-μ-loop table own from to₀ n far₀ i₀ to far i = n - i
+μ-loop table own marks₀ n far₀ i₀ marks far i = n - i
 
 row-count-requires : tie.Need-row-count-requires Inv-loop μ-loop
 row-count-requires c κs = search needs
@@ -34,8 +34,8 @@ row-count-requires c κs = search needs
 loop-holds : tie.Need-loop-holds Inv-loop μ-loop
 loop-holds c = (omega arith, c .row-count .ensures, refl, gathered-start _ _ _ _ (λ y l. le-ltb y 0 (omega arith)), wrote-start _ _)
 
-shared-slice-read-marked : tie.Need-shared-slice-read-marked Inv-loop μ-loop
-shared-slice-read-marked c = search needs
+slice-read-marked : tie.Need-slice-read-marked Inv-loop μ-loop
+slice-read-marked c = search needs
 
 both-requires : tie.Need-both-requires Inv-loop μ-loop
 both-requires c κs = search needs
@@ -46,8 +46,8 @@ below-requires c κs = search needs
 either-requires : tie.Need-either-requires Inv-loop μ-loop
 either-requires c κs = search needs
 
-slice-write-to : tie.Need-slice-write-to Inv-loop μ-loop
-slice-write-to c = search needs
+slice-write-marks : tie.Need-slice-write-marks Inv-loop μ-loop
+slice-write-marks c = search needs
 
 end-at-requires : tie.Need-end-at-requires Inv-loop μ-loop
 end-at-requires c κs = search needs
@@ -68,14 +68,15 @@ loop-again : tie.Need-loop-again Inv-loop μ-loop
 loop-again c =
     let ei = c .before .before in
     let lo = ei .before .before .before .before .before in
-    let st = lo .before .before .before .before .before in
+    let st = lo .before .before .before .before in
     let inv = lo .loop .inv in
+    let old = wrote-ahead _ _ _ _ (lo .loop .i) (inv .4) (omega arith) in
     let low : lo .loop .i < rows (st .args .table .now) = omega arith in (
       omega arith,
       inv .1,
       simp length-set (inv .2),
-      gathered-more _ _ _ _ _ _ (inv .3) (λ y l. c .larger-if .ensures y ∙ rw (c .before .end-at .ensures .0)),
-      wrote-more _ _ _ _ (inv .4) (omega arith) (ei .either .ensures ∙ rw (ei .before .below .ensures, ei .before .before .both .ensures) (below-hit _ _ _ low (st .args .own) _ (inv .3) (omega arith))),
+      gathered-more _ _ _ _ _ _ (inv .3) (λ y l. c .larger-if .ensures y ∙ rw (c .before .end-at .ensures .0, old)),
+      wrote-more _ _ _ _ _ (inv .4) (omega arith) (ei .either .ensures ∙ rw (ei .before .below .ensures, ei .before .before .both .ensures, old) (below-hit _ _ _ low (st .args .own) _ (inv .3) (omega arith))),
     )
 
 same-length : tie.Need-same-length Inv-loop μ-loop
@@ -92,11 +93,11 @@ mark-descendants-spec =
     μ-loop
     row-count-requires
     loop-holds
-    shared-slice-read-marked
+    slice-read-marked
     both-requires
     below-requires
     either-requires
-    slice-write-to
+    slice-write-marks
     end-at-requires
     add-larger-if
     larger-if-requires

@@ -1,52 +1,38 @@
--- `reach::mark_earlier_siblings` meets its contract: as for the later ones, from the last row down. The measure is the row.
+-- `reach::mark_earlier_siblings` meets its contract: a row is flagged exactly if a marked row passed has it as its parent; the rows passed are marked exactly if they are reached, and the others as they were. The measure is what is left of the rows.
 -- Assumes nothing.
 use Prim.Native.Nat.{_+_, _-_, _<_, _≤_}
 use mathlib.Core.Path.{_≡_, refl, _∙_}
 use mathlib.Core.Bool.{false}
 use lib.ListN.{length, getD, length-set}
+use lib.ListN.{getD-replicate}
 use native.Mathlib.Omega.{arith}
 use borrow.Author.Needs.{needs}
-use Rattle.meaning.specs.Table.{rows}
+use Rattle.meaning.specs.Table.{rows, mostRows}
 use Rattle.meaning.specs.Axis.{on}
 use Rattle.meaning.specs.Axis as A
 use Rattle.meaning.proofs.Windows.{upFrom}
-use Rattle.meaning.proofs.Marks.{WroteDown, down-start, down-more}
+use Rattle.meaning.proofs.Marks.{WroteDown, down-start, down-more, down-ahead}
 use Rattle.reach.specs.Reach.{hit}
 use Rattle.reach.proofs.Sweep.{Gathered, gathered-top, gathered-down, rooted, earlier-hit, down-hits, flag-step}
 use Rattle.reach.proofs.mark_earlier_siblings.Statement.{statement}
 use Rattle.reach.proofs.mark_earlier_siblings.Tie as tie
 
 abbrev Inv-loop : tie.InvT-loop
-Inv-loop table from to₀ seen₀ n i₀ to seen i =
-    (i ≤ n)
-    × (n ≡ rows table)
-    × (length to ≡ length to₀)
-    × (length seen ≡ length seen₀)
-    × (rows table ≤ length seen)
-    × Gathered (rows table) (on table A.parent) from (upFrom i (rows table - i)) (λ q. getD seen q false)
-    × WroteDown (hit table A.preceding-sibling from) (rows table) to i
+Inv-loop table marks₀ seen₀ i₀ marks seen i =
+    (i ≤ rows table)
+    × (length marks ≡ length marks₀)
+    × (length seen ≡ mostRows)
+    × Gathered (rows table) (on table A.parent) marks₀ (upFrom i (rows table - i)) (λ q. getD seen q false)
+    × WroteDown (hit table A.preceding-sibling marks₀) (rows table) marks₀ marks i
 
 abbrev μ-loop : tie.MeasureT-loop
-μ-loop table from to₀ seen₀ n i₀ to seen i = i
+μ-loop table marks₀ seen₀ i₀ marks seen i = i
 
 row-count-requires : tie.Need-row-count-requires Inv-loop μ-loop
 row-count-requires c κs = search needs
 
-clear-requires : tie.Need-clear-requires Inv-loop μ-loop
-clear-requires c κs = search needs
-
 loop-holds : tie.Need-loop-holds Inv-loop μ-loop
-loop-holds c =
-    let cl = c .before .before in
-    let n = cl .before .before .row-count .ensures in (
-      omega arith,
-      n,
-      refl,
-      refl,
-      omega (arith, cl .clear .kept),
-      rw n (gathered-top _ _ _ _ _ (λ y l. cl .clear .ensures y (omega arith))),
-      rw n (down-start _ _ _),
-    )
+loop-holds c = let e = c .row-count .ensures in (omega arith, refl, search needs, rw e (gathered-top _ _ _ _ _ (λ y l. getD-replicate mostRows y false false (omega (arith, c .before .before .before .pre .small)))), rw e (down-start _ _ _))
 
 sub-i : tie.Need-sub-i Inv-loop μ-loop
 sub-i c = search needs
@@ -54,12 +40,15 @@ sub-i c = search needs
 parent-at-requires : tie.Need-parent-at-requires Inv-loop μ-loop
 parent-at-requires c κs = search needs
 
-slice-read-passed : tie.Need-slice-read-passed Inv-loop μ-loop
-slice-read-passed c =
-    let lo = c .before .before .before in
-    let st = lo .before .before .before .before .before .before .before .before .before .before in
+array-read-passed : tie.Need-array-read-passed Inv-loop μ-loop
+array-read-passed c =
+    let lo = c .before .before in
+    let st = lo .before .before .before .before in
     let low : lo .loop .i - 1 < rows (st .args .table .now) = omega arith in
-    omega (arith, rooted _ (st .pre .0 .parents) _ low)
+    omega (arith, rooted _ (st .pre .parents) _ low, st .pre .small)
+
+slice-read-marked : tie.Need-slice-read-marked Inv-loop μ-loop
+slice-read-marked c = search needs
 
 below-requires : tie.Need-below-requires Inv-loop μ-loop
 below-requires c κs = search needs
@@ -67,11 +56,8 @@ below-requires c κs = search needs
 both-requires : tie.Need-both-requires Inv-loop μ-loop
 both-requires c κs = search needs
 
-slice-write-to : tie.Need-slice-write-to Inv-loop μ-loop
-slice-write-to c = search needs
-
-shared-slice-read-both : tie.Need-shared-slice-read-both Inv-loop μ-loop
-shared-slice-read-both c = search needs
+slice-write-marks : tie.Need-slice-write-marks Inv-loop μ-loop
+slice-write-marks c = search needs
 
 both-requires-2 : tie.Need-both-requires-2 Inv-loop μ-loop
 both-requires-2 c κs = search needs
@@ -79,47 +65,43 @@ both-requires-2 c κs = search needs
 either-requires : tie.Need-either-requires Inv-loop μ-loop
 either-requires c κs = search needs
 
-slice-write-seen : tie.Need-slice-write-seen Inv-loop μ-loop
-slice-write-seen c =
-    let lo = c .before .before .before .before .before .before .before .before in
-    let st = lo .before .before .before .before .before .before .before .before .before .before in
+array-write-seen : tie.Need-array-write-seen Inv-loop μ-loop
+array-write-seen c =
+    let lo = c .before .before .before .before .before .before .before in
+    let st = lo .before .before .before .before in
     let low : lo .loop .i - 1 < rows (st .args .table .now) = omega arith in
-    omega (arith, rooted _ (st .pre .0 .parents) _ low)
+    omega (arith, rooted _ (st .pre .parents) _ low, st .pre .small)
 
 loop-less : tie.Need-loop-less Inv-loop μ-loop
 loop-less c = search needs
 
 loop-again : tie.Need-loop-again Inv-loop μ-loop
 loop-again c =
-    let lo = c .before .before .before .before .before .before .before .before in
-    let st = lo .before .before .before .before .before .before .before .before .before .before in
-    let pa = c .before .before .before .before .before .before in
+    let pa = c .before .before .before .before .before in
+    let lo = pa .before .before in
+    let st = lo .before .before .before .before in
     let inv = lo .loop .inv in
     let i = lo .loop .i in
     let t = st .args .table .now in
-    let from = st .args .from .now in
+    let from = st .args .marks .now in
     let seen = lo .loop .seen in
     let back : i ≡ i - 1 + 1 = omega arith in
     let low : i - 1 < rows t = omega arith in
-    let flag : pa .parent-at .result < length seen = omega (arith, rooted _ (st .pre .0 .parents) _ low) in
-    let after : Gathered (rows t) (on t A.parent) from (upFrom (i - 1 + 1) (rows t - (i - 1 + 1))) (λ q. getD seen q false) = rw (← back) (inv .5) in (
+    let old = down-ahead _ _ _ _ _ (i - 1) (inv .4) (omega arith) low in
+    let flag : pa .parent-at .result < length seen = omega (arith, rooted _ (st .pre .parents) _ low, st .pre .small) in
+    let after : Gathered (rows t) (on t A.parent) from (upFrom (i - 1 + 1) (rows t - (i - 1 + 1))) (λ q. getD seen q false) = rw (← back) (inv .3) in (
       omega arith,
-      inv .1,
+      simp length-set (inv .1),
       simp length-set (inv .2),
-      simp length-set (inv .3),
-      simp length-set (inv .4),
-      gathered-down _ _ _ (rows t) (i - 1) _ _ low after (λ q l. flag-step t seen (i - 1) _ (getD from (i - 1) false) _ _ _ (pa .parent-at .ensures .0) (c .before .before .before .before .below .ensures) (c .before .both2 .ensures) (c .either .ensures) flag q),
-      down-more (hit t A.preceding-sibling from) (rows t) (lo .loop .to) (i - 1) _ (rw (← back) (inv .6)) (omega arith) (c .before .before .before .both .ensures ∙ rw (c .before .before .before .before .below .ensures, pa .parent-at .ensures .0) (earlier-hit _ _ _ low (st .pre .0 .parents) _ after)),
+      gathered-down _ _ _ (rows t) (i - 1) _ _ low after (λ q l. rw (← old) (flag-step t seen (i - 1) _ (getD (lo .loop .marks) (i - 1) false) _ _ _ (pa .parent-at .ensures .0) (c .before .before .before .below .ensures) (c .before .both2 .ensures) (c .either .ensures) flag q)),
+      down-more _ (rows t) from (lo .loop .marks) (i - 1) _ (rw (← back) (inv .4)) (omega arith) (c .before .before .both .ensures ∙ rw (c .before .before .before .below .ensures, pa .parent-at .ensures .0) (earlier-hit _ _ _ low (st .pre .parents) _ after)),
     )
 
 same-length : tie.Need-same-length Inv-loop μ-loop
 same-length c = search needs
 
-same-length-2 : tie.Need-same-length-2 Inv-loop μ-loop
-same-length-2 c = search needs
-
 returns : tie.Need-returns Inv-loop μ-loop
-returns c = down-hits _ _ _ _ _ (let e : c .before .loop .i ≡ 0 = omega arith in rw e at (c .before .loop .inv .6)) refl
+returns c = down-hits _ _ _ _ _ (let e : c .before .loop .i ≡ 0 = omega arith in rw (← e) (c .before .loop .inv .4)) refl
 
 pub mark-earlier-siblings-spec : {M : Type 1} → statement M
 mark-earlier-siblings-spec =
@@ -128,20 +110,18 @@ mark-earlier-siblings-spec =
     Inv-loop
     μ-loop
     row-count-requires
-    clear-requires
     loop-holds
     sub-i
     parent-at-requires
-    slice-read-passed
+    array-read-passed
+    slice-read-marked
     below-requires
     both-requires
-    slice-write-to
-    shared-slice-read-both
+    slice-write-marks
     both-requires-2
     either-requires
-    slice-write-seen
+    array-write-seen
     loop-less
     loop-again
     same-length
-    same-length-2
     returns)

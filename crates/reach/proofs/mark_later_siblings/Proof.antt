@@ -1,68 +1,55 @@
--- `reach::mark_later_siblings` meets its contract: a row is flagged exactly if a marked row passed has it as its parent; the rows passed are marked exactly if they are reached. The measure is what is left of the rows.
+-- `reach::mark_later_siblings` meets its contract: a row is flagged exactly if a marked row passed has it as its parent; the rows passed are marked exactly if they are reached, and the others as they were. The measure is what is left of the rows.
 -- Assumes nothing.
 use Prim.Native.Nat.{_-_, _<_, _≤_}
 use mathlib.Core.Path.{_≡_, refl}
 use mathlib.Core.Bool.{false}
 use lib.ListN.{length, getD, length-set}
+use lib.ListN.{getD-replicate}
 use native.Mathlib.Omega.{arith}
 use borrow.Author.Needs.{needs}
 use Rattle.meaning.specs.Lists.{upTo}
-use Rattle.meaning.specs.Table.{rows}
+use Rattle.meaning.specs.Table.{rows, mostRows}
 use Rattle.meaning.specs.Axis.{on}
 use Rattle.meaning.specs.Axis as A
-use Rattle.meaning.proofs.Marks.{Wrote, wrote-start, wrote-more}
+use Rattle.meaning.proofs.Marks.{Wrote, wrote-start, wrote-more, wrote-ahead}
 use Rattle.reach.specs.Reach.{hit}
 use Rattle.reach.proofs.Sweep.{Gathered, gathered-start, gathered-more, rooted, later-hit, up-hits, flag-step}
 use Rattle.reach.proofs.mark_later_siblings.Statement.{statement}
 use Rattle.reach.proofs.mark_later_siblings.Tie as tie
 
 abbrev Inv-loop : tie.InvT-loop
-Inv-loop table from to₀ seen₀ n i₀ to seen i =
+Inv-loop table marks₀ n seen₀ i₀ marks seen i =
     (i ≤ n)
     × (n ≡ rows table)
-    × (length to ≡ length to₀)
-    × (length seen ≡ length seen₀)
-    × (rows table ≤ length seen)
-    × Gathered (rows table) (on table A.parent) from (upTo i) (λ q. getD seen q false)
-    × Wrote (hit table A.following-sibling from) to i
+    × (length marks ≡ length marks₀)
+    × (length seen ≡ mostRows)
+    × Gathered (rows table) (on table A.parent) marks₀ (upTo i) (λ q. getD seen q false)
+    × Wrote (hit table A.following-sibling marks₀) marks₀ marks i
 
 abbrev μ-loop : tie.MeasureT-loop
-μ-loop table from to₀ seen₀ n i₀ to seen i = n - i
+μ-loop table marks₀ n seen₀ i₀ marks seen i = n - i
 
 row-count-requires : tie.Need-row-count-requires Inv-loop μ-loop
 row-count-requires c κs = search needs
 
-clear-requires : tie.Need-clear-requires Inv-loop μ-loop
-clear-requires c κs = search needs
-
 loop-holds : tie.Need-loop-holds Inv-loop μ-loop
-loop-holds c =
-    let cl = c .before .before in
-    let n = cl .before .before .row-count .ensures in (
-      omega arith,
-      n,
-      refl,
-      refl,
-      omega (arith, cl .clear .kept),
-      gathered-start _ _ _ _ (λ y l. cl .clear .ensures y (omega arith)),
-      wrote-start _ _,
-    )
+loop-holds c = (omega arith, c .row-count .ensures, refl, search needs, gathered-start _ _ _ _ (λ y l. getD-replicate mostRows y false false (omega (arith, c .before .before .before .pre .small))), wrote-start _ _)
 
 parent-at-requires : tie.Need-parent-at-requires Inv-loop μ-loop
 parent-at-requires c κs = search needs
 
-slice-read-passed : tie.Need-slice-read-passed Inv-loop μ-loop
-slice-read-passed c =
-    let lo = c .before .before .before in
-    let st = lo .before .before .before .before .before .before .before .before .before .before in
+array-read-passed : tie.Need-array-read-passed Inv-loop μ-loop
+array-read-passed c =
+    let lo = c .before .before in
+    let st = lo .before .before .before .before in
     let low : lo .loop .i < rows (st .args .table .now) = omega arith in
-    omega (arith, rooted _ (st .pre .0 .parents) _ low)
+    omega (arith, rooted _ (st .pre .parents) _ low, st .pre .small)
 
-slice-write-to : tie.Need-slice-write-to Inv-loop μ-loop
-slice-write-to c = search needs
+slice-read-marked : tie.Need-slice-read-marked Inv-loop μ-loop
+slice-read-marked c = search needs
 
-shared-slice-read-both : tie.Need-shared-slice-read-both Inv-loop μ-loop
-shared-slice-read-both c = search needs
+slice-write-marks : tie.Need-slice-write-marks Inv-loop μ-loop
+slice-write-marks c = search needs
 
 below-requires : tie.Need-below-requires Inv-loop μ-loop
 below-requires c κs = search needs
@@ -73,12 +60,12 @@ both-requires c κs = search needs
 either-requires : tie.Need-either-requires Inv-loop μ-loop
 either-requires c κs = search needs
 
-slice-write-seen : tie.Need-slice-write-seen Inv-loop μ-loop
-slice-write-seen c =
-    let lo = c .before .before .before .before .before .before .before in
-    let st = lo .before .before .before .before .before .before .before .before .before .before in
+array-write-seen : tie.Need-array-write-seen Inv-loop μ-loop
+array-write-seen c =
+    let lo = c .before .before .before .before .before .before in
+    let st = lo .before .before .before .before in
     let low : lo .loop .i < rows (st .args .table .now) = omega arith in
-    omega (arith, rooted _ (st .pre .0 .parents) _ low)
+    omega (arith, rooted _ (st .pre .parents) _ low, st .pre .small)
 
 add-i : tie.Need-add-i Inv-loop μ-loop
 add-i c = search needs
@@ -88,29 +75,27 @@ loop-less c = search needs
 
 loop-again : tie.Need-loop-again Inv-loop μ-loop
 loop-again c =
-    let lo = c .before .before .before .before .before .before .before in
-    let st = lo .before .before .before .before .before .before .before .before .before .before in
-    let pa = c .before .before .before .before .before in
+    let pa = c .before .before .before .before in
+    let lo = pa .before .before in
+    let st = lo .before .before .before .before in
     let inv = lo .loop .inv in
-    let low : lo .loop .i < rows (st .args .table .now) = omega arith in
-    let flag : pa .parent-at .result < length (lo .loop .seen) = omega (arith, rooted _ (st .pre .0 .parents) _ low) in (
+    let i = lo .loop .i in
+    let low : i < rows (st .args .table .now) = omega arith in
+    let old = wrote-ahead _ _ _ _ i (inv .5) (omega arith) in
+    let flag : pa .parent-at .result < length (lo .loop .seen) = omega (arith, rooted _ (st .pre .parents) _ low, st .pre .small) in (
       omega arith,
       inv .1,
       simp length-set (inv .2),
       simp length-set (inv .3),
-      simp length-set (inv .4),
-      gathered-more _ _ _ _ _ _ (inv .5) (λ q l. flag-step (st .args .table .now) (lo .loop .seen) (lo .loop .i) _ (getD (st .args .from .now) (lo .loop .i) false) _ _ _ (pa .parent-at .ensures .0) (c .before .before .below .ensures) (c .before .both .ensures) (c .either .ensures) flag q),
-      wrote-more _ _ _ _ (inv .6) (omega arith) (rw (pa .parent-at .ensures .0) (later-hit _ _ _ low (st .pre .0 .parents) _ (inv .5))),
+      gathered-more _ _ _ _ _ _ (inv .4) (λ q l. rw (← old) (flag-step (st .args .table .now) (lo .loop .seen) i _ (getD (lo .loop .marks) i false) _ _ _ (pa .parent-at .ensures .0) (c .before .before .below .ensures) (c .before .both .ensures) (c .either .ensures) flag q)),
+      wrote-more _ _ _ _ _ (inv .5) (omega arith) (rw (pa .parent-at .ensures .0) (later-hit _ _ _ low (st .pre .parents) _ (inv .4))),
     )
 
 same-length : tie.Need-same-length Inv-loop μ-loop
 same-length c = search needs
 
-same-length-2 : tie.Need-same-length-2 Inv-loop μ-loop
-same-length-2 c = search needs
-
 returns : tie.Need-returns Inv-loop μ-loop
-returns c = up-hits _ _ _ _ _ (c .before .loop .inv .6) (omega arith)
+returns c = up-hits _ _ _ _ _ (c .before .loop .inv .5) (omega arith)
 
 pub mark-later-siblings-spec : {M : Type 1} → statement M
 mark-later-siblings-spec =
@@ -119,19 +104,17 @@ mark-later-siblings-spec =
     Inv-loop
     μ-loop
     row-count-requires
-    clear-requires
     loop-holds
     parent-at-requires
-    slice-read-passed
-    slice-write-to
-    shared-slice-read-both
+    array-read-passed
+    slice-read-marked
+    slice-write-marks
     below-requires
     both-requires
     either-requires
-    slice-write-seen
+    array-write-seen
     add-i
     loop-less
     loop-again
     same-length
-    same-length-2
     returns)

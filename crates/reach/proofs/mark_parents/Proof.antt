@@ -1,4 +1,4 @@
--- `reach::mark_parents` meets its contract: a row is flagged exactly if it is the parent of a marked row passed; parents are rows, so each has a flag. The measure is what is left of the rows.
+-- `reach::mark_parents` meets its contract: of the rows passed those are marked that are the parent of a marked row passed, and the others are as they were; a parent is among the rows passed when its child hands it its mark. The measure is what is left of the rows.
 -- Assumes nothing.
 use Prim.Native.Nat.{_-_, _<_, _≤_}
 use mathlib.Core.Path.{_≡_, refl}
@@ -10,45 +10,42 @@ use Rattle.meaning.specs.Lists.{upTo}
 use Rattle.meaning.specs.Table.{rows}
 use Rattle.meaning.specs.Axis.{on}
 use Rattle.meaning.specs.Axis as A
-use Rattle.reach.proofs.Sweep.{Gathered, gathered-start, gathered-more, rooted, parent-hits, flag-step}
+use Rattle.reach.proofs.Sweep.{Gathered, gathered-start, gathered-more, rooted, Ahead, ahead-start, ahead-more, ahead-at, handed, handed-start, handed-more, handed-hits}
 use Rattle.reach.proofs.mark_parents.Statement.{statement}
 use Rattle.reach.proofs.mark_parents.Tie as tie
 
 abbrev Inv-loop : tie.InvT-loop
-Inv-loop table from to₀ n i₀ to i =
+Inv-loop table marks₀ n i₀ marks i =
     (i ≤ n)
     × (n ≡ rows table)
-    × (length to ≡ length to₀)
-    × (rows table ≤ length to)
-    × Gathered (rows table) (on table A.parent) from (upTo i) (λ q. getD to q false)
+    × (length marks ≡ length marks₀)
+    × Gathered (rows table) (on table A.parent) marks₀ (upTo i) (handed i marks)
+    × Ahead marks₀ marks i
 
 abbrev μ-loop : tie.MeasureT-loop
-μ-loop table from to₀ n i₀ to i = n - i
+μ-loop table marks₀ n i₀ marks i = n - i
 
 row-count-requires : tie.Need-row-count-requires Inv-loop μ-loop
 row-count-requires c κs = search needs
 
-clear-requires : tie.Need-clear-requires Inv-loop μ-loop
-clear-requires c κs = search needs
-
 loop-holds : tie.Need-loop-holds Inv-loop μ-loop
-loop-holds c =
-    let cl = c .before .before in
-    let n = cl .before .before .row-count .ensures in
-    (omega arith, n, refl, omega (arith, cl .clear .kept), gathered-start _ _ _ _ (λ y l. cl .clear .ensures y (omega arith)))
+loop-holds c = (omega arith, c .row-count .ensures, refl, gathered-start _ _ _ _ (λ y l. handed-start (c .before .before .before .args .marks .now) y), ahead-start _)
 
 parent-at-requires : tie.Need-parent-at-requires Inv-loop μ-loop
 parent-at-requires c κs = search needs
 
+slice-read-marked : tie.Need-slice-read-marked Inv-loop μ-loop
+slice-read-marked c = search needs
+
+slice-write-marks : tie.Need-slice-write-marks Inv-loop μ-loop
+slice-write-marks c = search needs
+
 slice-read-either : tie.Need-slice-read-either Inv-loop μ-loop
 slice-read-either c =
-    let lo = c .before .before .before in
-    let st = lo .before .before .before .before .before .before .before .before .before in
+    let lo = c .before .before .before .before in
+    let st = lo .before .before .before .before in
     let low : lo .loop .i < rows (st .args .table .now) = omega arith in
-    omega (arith, rooted _ (st .pre .parents) _ low)
-
-shared-slice-read-both : tie.Need-shared-slice-read-both Inv-loop μ-loop
-shared-slice-read-both c = search needs
+    simp length-set (omega (arith, rooted _ (st .pre .parents) _ low))
 
 below-requires : tie.Need-below-requires Inv-loop μ-loop
 below-requires c κs = search needs
@@ -59,12 +56,12 @@ both-requires c κs = search needs
 either-requires : tie.Need-either-requires Inv-loop μ-loop
 either-requires c κs = search needs
 
-slice-write-to : tie.Need-slice-write-to Inv-loop μ-loop
-slice-write-to c =
+slice-write-marks-2 : tie.Need-slice-write-marks-2 Inv-loop μ-loop
+slice-write-marks-2 c =
     let lo = c .before .before .before .before .before .before .before in
-    let st = lo .before .before .before .before .before .before .before .before .before in
+    let st = lo .before .before .before .before in
     let low : lo .loop .i < rows (st .args .table .now) = omega arith in
-    omega (arith, rooted _ (st .pre .parents) _ low)
+    simp length-set (omega (arith, rooted _ (st .pre .parents) _ low))
 
 add-i : tie.Need-add-i Inv-loop μ-loop
 add-i c = search needs
@@ -74,23 +71,25 @@ loop-less c = search needs
 
 loop-again : tie.Need-loop-again Inv-loop μ-loop
 loop-again c =
-    let lo = c .before .before .before .before .before .before .before in
-    let st = lo .before .before .before .before .before .before .before .before .before in
+    let pa = c .before .before .before .before .before in
+    let lo = pa .before .before in
+    let st = lo .before .before .before .before in
     let inv = lo .loop .inv in
-    let low : lo .loop .i < rows (st .args .table .now) = omega arith in
-    let flag : c .before .before .before .before .before .parent-at .result < length (lo .loop .to) = omega (arith, rooted _ (st .pre .parents) _ low) in (
+    let i = lo .loop .i in
+    let low : i < rows (st .args .table .now) = omega arith in
+    let up = rooted _ (st .pre .parents) _ low in (
       omega arith,
       inv .1,
       simp length-set (inv .2),
-      simp length-set (inv .3),
-      gathered-more _ _ _ _ _ _ (inv .4) (λ q l. flag-step (st .args .table .now) (lo .loop .to) (lo .loop .i) _ (getD (st .args .from .now) (lo .loop .i) false) _ _ _ (c .before .before .before .before .before .parent-at .ensures .0) (c .before .before .below .ensures) (c .before .both .ensures) (c .either .ensures) flag q),
+      gathered-more _ _ _ _ _ _ (inv .3) (λ q l. rw (← ahead-at _ _ _ (inv .4)) (handed-more (st .args .table .now) (lo .loop .marks) i _ (getD (lo .loop .marks) i false) _ _ _ (pa .parent-at .ensures .0) (omega (arith, up)) (c .before .before .below .ensures) (c .before .both .ensures) (c .either .ensures) (omega arith) q)),
+      ahead-more _ _ _ _ _ _ (inv .4) (omega (arith, up)),
     )
 
 same-length : tie.Need-same-length Inv-loop μ-loop
 same-length c = search needs
 
 returns : tie.Need-returns Inv-loop μ-loop
-returns c = parent-hits _ _ _ _ (c .before .loop .inv .4) (omega arith)
+returns c = handed-hits _ _ _ _ (c .before .loop .inv .3) (omega arith)
 
 pub mark-parents-spec : {M : Type 1} → statement M
 mark-parents-spec =
@@ -99,15 +98,15 @@ mark-parents-spec =
     Inv-loop
     μ-loop
     row-count-requires
-    clear-requires
     loop-holds
     parent-at-requires
+    slice-read-marked
+    slice-write-marks
     slice-read-either
-    shared-slice-read-both
     below-requires
     both-requires
     either-requires
-    slice-write-to
+    slice-write-marks-2
     add-i
     loop-less
     loop-again

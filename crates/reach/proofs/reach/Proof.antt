@@ -1,8 +1,9 @@
--- `reach::reach` meets its contract: one answer for each axis, by its number; what is none of 1 to 10 reads as self.
+-- `reach::reach` meets its contract: one answer for each axis, by its number; what is none of 1 to 10 reads as self, and stays.
 -- Assumes nothing.
 use borrow.Author.Needs.{needs}
 use Rattle.meaning.specs.Axis as A
 use Rattle.meaning.proofs.Trees.{axis-rest}
+use Rattle.reach.proofs.Sweep.{self-hits}
 use Rattle.reach.proofs.reach.Statement.{statement}
 use Rattle.reach.proofs.reach.Tie as tie
 
@@ -35,9 +36,6 @@ mark-later-siblings-requires c κs = search needs
 
 mark-earlier-siblings-requires : tie.Need-mark-earlier-siblings-requires
 mark-earlier-siblings-requires c κs = search needs
-
-mark-selves-requires : tie.Need-mark-selves-requires
-mark-selves-requires c κs = search needs
 
 same-length : tie.Need-same-length
 same-length c = search needs
@@ -98,28 +96,21 @@ returns-8 c = rw (c .before .before .before .before .match .keys8) (c .before .b
 same-length-9 : tie.Need-same-length-9
 same-length-9 c = search needs
 
+returns-9 : tie.Need-returns-9
+unfolding A.axisOf
+returns-9 c = rw (c .before .before .before .before .match .keys9) (c .before .before .mark-later-siblings .ensures)
+
 same-length-10 : tie.Need-same-length-10
 same-length-10 c = search needs
 
-returns-9 : tie.Need-returns-9
-unfolding A.axisOf
-returns-9 c = rw (c .before .before .before .before .before .before .before .match .keys9) (c .before .before .before .before .mark-later-siblings .ensures)
-
-same-length-11 : tie.Need-same-length-11
-same-length-11 c = search needs
-
-same-length-12 : tie.Need-same-length-12
-same-length-12 c = search needs
-
 returns-10 : tie.Need-returns-10
 unfolding A.axisOf
-returns-10 c = rw (c .before .before .before .before .before .before .before .match .keys10) (c .before .before .before .before .mark-earlier-siblings .ensures)
-
-same-length-13 : tie.Need-same-length-13
-same-length-13 c = search needs
+returns-10 c = rw (c .before .before .before .before .match .keys10) (c .before .before .mark-earlier-siblings .ensures)
 
 returns-11 : tie.Need-returns-11
-returns-11 c = let m = c .before .before .before .before .match in rw (axis-rest _ (m .rest .0 .0 .0 .0 .0 .0 .0 .0 .0 .1) (m .rest .0 .0 .0 .0 .0 .0 .0 .0 .1) (m .rest .0 .0 .0 .0 .0 .0 .0 .1) (m .rest .0 .0 .0 .0 .0 .0 .1) (m .rest .0 .0 .0 .0 .0 .1) (m .rest .0 .0 .0 .0 .1) (m .rest .0 .0 .0 .1) (m .rest .0 .0 .1) (m .rest .0 .1) (m .rest .1)) (c .before .before .mark-selves .ensures)
+returns-11 c =
+    let m = c .match .rest in
+    rw (axis-rest _ (m .0 .0 .0 .0 .0 .0 .0 .0 .0 .1) (m .0 .0 .0 .0 .0 .0 .0 .0 .1) (m .0 .0 .0 .0 .0 .0 .0 .1) (m .0 .0 .0 .0 .0 .0 .1) (m .0 .0 .0 .0 .0 .1) (m .0 .0 .0 .0 .1) (m .0 .0 .0 .1) (m .0 .0 .1) (m .0 .1) (m .1)) (self-hits _ _)
 
 pub reach-spec : {M : Type 1} → statement M
 reach-spec =
@@ -135,7 +126,6 @@ reach-spec =
     mark-preceding-requires
     mark-later-siblings-requires
     mark-earlier-siblings-requires
-    mark-selves-requires
     same-length
     returns
     same-length-2
@@ -153,10 +143,7 @@ reach-spec =
     same-length-8
     returns-8
     same-length-9
-    same-length-10
     returns-9
-    same-length-11
-    same-length-12
+    same-length-10
     returns-10
-    same-length-13
     returns-11)

@@ -4,7 +4,9 @@
 use mathlib.Core.Path.{refl}
 use native.Mathlib.Omega.{arith}
 use Rattle.meaning.proofs.Checks.{table-accepted}
-use Rattle.reach.proofs.Sets.{accepted-rooted}
+use Rattle.meaning.specs.Table.{mostRows}
+use Rattle.meaning.proofs.Marks.{no-marks}
+use Rattle.reach.proofs.Accepted.{accepted-rooted}
 use Rattle.meaning.proofs.Outcome.{table-fits, path-fits, start-refused, room-refused, all-listed}
 use borrow.Author.Needs.{needs}
 use Rattle.select.proofs.evaluate_accepted.Statement.{statement}
@@ -30,7 +32,7 @@ slice-aggregate-select c = search needs
 select-requires : tie.Need-select-requires
 select-requires c κs =
     let st = c .before .before .before .before .before .before .before .before in
-    (record { small = table-fits _ (st .pre .1); low = rw (c .before .row-count2 .ensures) (path-fits _ _ (st .pre .2)); parents = accepted-rooted _ (table-accepted _ (st .pre .1)) }, refl)
+    (record { small = table-fits _ (st .pre .1); low = rw (c .before .row-count2 .ensures) (path-fits _ _ (st .pre .2)); parents = accepted-rooted _ (table-accepted _ (st .pre .1)) }, (refl, no-marks mostRows))
 
 slice-aggregate-count-marks : tie.Need-slice-aggregate-count-marks
 slice-aggregate-count-marks c = search needs

@@ -1,24 +1,27 @@
--- `select::marks::copy_marks` meets its contract. The loop's invariant: the first i marks are those of the other slice. The measure is
--- what is left of the length.
+-- `marks::copy_marks` meets its contract: each mark passed is as in the other set. The measure is what is left of the rows.
 -- Assumes nothing.
 use Prim.Native.Nat.{_-_, _≤_}
 use mathlib.Core.Path.{_≡_, refl}
+use mathlib.Core.Bool.{false}
+use lib.ListN.{length, getD, length-set}
 use native.Mathlib.Omega.{arith}
 use borrow.Author.Needs.{needs}
-use lib.ListN.{length, getD, length-set}
-use mathlib.Core.Bool.{false}
-use Rattle.meaning.proofs.Marks.{Wrote, wrote-start, wrote-more, wrote-copy}
+use Rattle.meaning.specs.Table.{rows}
+use Rattle.meaning.proofs.Marks.{listed, Wrote, wrote-start, wrote-more, wrote-listed}
 use Rattle.select.proofs.marks.copy_marks.Statement.{statement}
 use Rattle.select.proofs.marks.copy_marks.Tie as tie
 
 abbrev Inv-loop : tie.InvT-loop
-Inv-loop from to₀ i₀ to i = (i ≤ length to) × (length to ≡ length from) × (length to ≡ length to₀) × Wrote (λ y. getD from y false) to i
+Inv-loop table from to₀ n i₀ to i = (i ≤ n) × (n ≡ rows table) × (length to ≡ length to₀) × Wrote (λ y. getD from y false) to₀ to i
 
 abbrev μ-loop : tie.MeasureT-loop
-μ-loop from to₀ i₀ to i = length to₀ - i
+μ-loop table from to₀ n i₀ to i = n - i
+
+row-count-requires : tie.Need-row-count-requires Inv-loop μ-loop
+row-count-requires c κs = search needs
 
 loop-holds : tie.Need-loop-holds Inv-loop μ-loop
-loop-holds c = (search needs, c .pre, refl, wrote-start _ _)
+loop-holds c = (omega arith, c .row-count .ensures, refl, wrote-start _ _)
 
 shared-slice-read-to : tie.Need-shared-slice-read-to Inv-loop μ-loop
 shared-slice-read-to c = search needs
@@ -33,13 +36,16 @@ loop-less : tie.Need-loop-less Inv-loop μ-loop
 loop-less c = search needs
 
 loop-again : tie.Need-loop-again Inv-loop μ-loop
-loop-again c = (simp length-set (omega arith), simp length-set (omega arith), simp length-set (omega arith), wrote-more _ _ _ _ (c .before .before .loop .inv .3) (c .before .loop-test .taken) refl)
+loop-again c =
+    let inv = c .before .before .loop .inv in
+    (omega arith, inv .1, simp length-set (inv .2), wrote-more _ _ _ _ _ (inv .3) (omega arith) refl)
 
 same-length : tie.Need-same-length Inv-loop μ-loop
 same-length c = search needs
 
 returns : tie.Need-returns Inv-loop μ-loop
-returns c = wrote-copy _ _ _ (c .before .loop .inv .3) (c .loop-test .left) (c .before .loop .inv .1)
+unfolding listed
+returns c = wrote-listed _ _ _ (c .before .before .before .before .before .before .args .table .now) _ (c .before .loop .inv .3) (omega arith)
 
 pub copy-marks-spec : {M : Type 1} → statement M
 copy-marks-spec =
@@ -47,6 +53,7 @@ copy-marks-spec =
     (tie.spec
     Inv-loop
     μ-loop
+    row-count-requires
     loop-holds
     shared-slice-read-to
     slice-write-to

@@ -1,0 +1,47 @@
+-- `step_back`: the near nodes, the test, the predicates, and the inverse axis.
+-- Assumes nothing.
+use Prim.Native.Nat.{ℕ}
+use native.Mathlib.Omega.{arith}
+use borrow.Author.Needs.{needs}
+use Rattle.select.proofs.Links.{lower}
+use Rattle.select.proofs.Sets.{led-by}
+use Rattle.select.proofs.cycle.step_back.Reads as reads
+use Rattle.select.proofs.cycle.+back+decide+decide_back+decide_each+decide_not+decide_pair+decide_path+expression+keep+narrow+select+spread+step+step_back+stride+tally+thin+walk.Lts-step_back as lts
+use Rattle.select.proofs.cycle.+back+decide+decide_back+decide_each+decide_not+decide_pair+decide_path+expression+keep+narrow+select+spread+step+step_back+stride+tally+thin+walk.Proof.Shared.{step-back-at as given, step-back-calls as calls}
+
+module _ (t : ℕ) where
+  pub meet-requires : lts.Need-meet-requires (calls t) (given t) reads.Post
+  meet-requires c κs = search needs
+
+  pub sift-requires : lts.Need-sift-requires (calls t) (given t) reads.Post
+  sift-requires c κs = search needs
+
+  pub narrow-requires : lts.Need-narrow-requires (calls t) (given t) reads.Post
+  narrow-requires c κs =
+      let sift = c .before .before .before in
+      let meet = sift .before .before .before .before in
+      let start = meet .before .before .before .before .before .before .before in
+      (omega (arith, start .pre), (lower _ _ _ (start .pre .1 .0) (omega (arith, start .pre)), omega (arith, start .pre, sift .sift .kept, meet .meet .kept)))
+
+  pub inverse-axis-requires : lts.Need-inverse-axis-requires (calls t) (given t) reads.Post
+  inverse-axis-requires c κs = search needs
+
+  pub reach-requires : lts.Need-reach-requires (calls t) (given t) reads.Post
+  reach-requires c κs =
+      let narrow = c .before .before .before .before in
+      let sift = narrow .before .before .before .before in
+      let meet = sift .before .before .before .before in
+      let start = meet .before .before .before .before .before .before .before in
+      record { small = start .pre .1 .0 .small; long = omega (arith, start .pre .1 .0 .small, start .pre, sift .sift .kept, meet .meet .kept, narrow .narrow .kept); parents = start .pre .1 .0 .parents }
+
+  pub same-length : lts.Need-same-length (calls t) (given t) reads.Post
+  same-length c = search needs
+
+  pub returns : lts.Need-returns (calls t) (given t) reads.Post
+  returns c =
+      let reach = c .before .before in
+      let inverse-axis = reach .before .before in
+      let narrow = inverse-axis .before .before .before in
+      let sift = narrow .before .before .before .before in
+      let meet = sift .before .before .before .before in
+      led-by _ _ _ _ _ _ _ _ _ _ _ _ (inverse-axis .inverse-axis .ensures .0) (meet .meet .ensures) (sift .sift .ensures) (narrow .narrow .ensures) (reach .reach .ensures)
