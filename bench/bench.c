@@ -6,7 +6,9 @@
  * Writes Markdown: for each shape of document a row for each query, with our
  * times at four sizes, the two others' at the largest, how each grows from
  * the smallest to the largest size, and ours over the faster of the two.
- * Each cell runs in a process of its own, which the cap can end.
+ * Each cell runs in a process of its own, which the cap can end. Quick cells
+ * are run in several rounds, all sizes and engines in turn, and the least time
+ * counts: a machine that is slow for a while then slows no single cell.
  */
 #include "documents.h"
 #include "engines.h"
@@ -20,7 +22,10 @@
 #include <time.h>
 #include <unistd.h>
 
-enum { SIZES = 4, ENGINES = 3, MAX_ROWS = 4096, SAMPLES = 31 };
+enum { SIZES = 4, ENGINES = 3, MAX_ROWS = 4096, SAMPLES = 31, ROUNDS = 5 };
+
+/* a cell that takes longer is run in one round alone */
+static const double QUICK = 0.005;
 
 static const uint32_t sizes[SIZES] = {512, 1024, 2048, 4096};
 static const struct engine *const engines[ENGINES] = {&ours, &pugixml, &libxml2};
@@ -122,7 +127,7 @@ static struct cell measure(const struct engine *engine, const struct question *q
     static uint32_t nodes[MAX_ROWS];
     struct cell cell = {true, 0, 0, 0};
     void *state = engine->open(question);
-    limit_time(cap + 5);
+    limit_time(cap + 1);
     cell.seconds = median_time(engine, state);
     limit_time(3 * cap + 10);
     cell.done = cell.seconds <= cap;
@@ -160,6 +165,14 @@ static struct cell run_cell(const struct engine *engine, const struct question *
     if (WIFEXITED(status) && WEXITSTATUS(status) != 0)
         exit(WEXITSTATUS(status));
     return cell;
+}
+
+/* runs a cell once more and keeps the less of its two times */
+static void run_again(struct cell *cell, const struct engine *engine, const struct question *question)
+{
+    struct cell again = run_cell(engine, question);
+    if (again.done && again.seconds < cell->seconds)
+        cell->seconds = again.seconds;
 }
 
 /* ---- the tables ---- */
@@ -261,15 +274,18 @@ static bool run_query(enum shape shape, const struct query *asked)
     char query[512];
     spell(asked->text, shape, query);
     memset(cells, 0, sizeof cells);
-    for (int s = 0; s < SIZES; s++) {
-        build_table(shape, sizes[s], table);
-        char *xml = xml_of_table(table, sizes[s]);
-        struct question question = {table, sizes[s], xml, query};
-        for (int e = 0; e < ENGINES; e++)
-            if (s == 0 || cells[e][s - 1].done)
-                cells[e][s] = run_cell(engines[e], &question);
-        free(xml);
-    }
+    for (int round = 0; round < ROUNDS; round++)
+        for (int s = 0; s < SIZES; s++) {
+            build_table(shape, sizes[s], table);
+            char *xml = xml_of_table(table, sizes[s]);
+            struct question question = {table, sizes[s], xml, query};
+            for (int e = 0; e < ENGINES; e++)
+                if (round == 0 && (s == 0 || cells[e][s - 1].done))
+                    cells[e][s] = run_cell(engines[e], &question);
+                else if (cells[e][s].done && cells[e][s].seconds < QUICK)
+                    run_again(&cells[e][s], engines[e], &question);
+            free(xml);
+        }
     print_row(asked->label ? asked->label : query, asked->label == NULL, cells);
     return same_answers(query, cells);
 }

@@ -21,7 +21,8 @@ use Rattle.meaning.specs.Meaning.{applied, isAbsolute, startOf, value, s
 use Rattle.meaning.specs.Turning.{counting, counts, inverseOf}
 use Rattle.meaning.proofs.Bools.{or-none-l, or-none-r, eqb-sym}
 use Rattle.meaning.proofs.Lists.{some-same}
-use Rattle.meaning.proofs.Trees.{op-is, tree-zero, tree-row}
+use Rattle.meaning.proofs.Decoding.{op-is}
+use Rattle.meaning.proofs.Trees.{tree-zero, tree-row}
 use Rattle.meaning.proofs.Windows.{some-below, some-or, some-and, some-keep, some-at}
 use Rattle.meaning.proofs.Free.{true-at, ok, fits, free-walk}
 use Rattle.meaning.proofs.Turning.{inverse-on}

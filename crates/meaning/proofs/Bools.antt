@@ -39,10 +39,6 @@ pub or-none-r : (a b : Bool) → (a || b) ≡ false → b ≡ false
 or-none-r true b h = absurd (true≢false h)
 or-none-r false b h = h
 
-pub not-i : (b : Bool) → (T b → ⊥) → T (not b)
-not-i true f = f tt
-not-i false f = tt
-
 pub not-e : (b : Bool) → T (not b) → T b → ⊥
 not-e true h k = h
 not-e false h k = k

@@ -1,5 +1,4 @@
--- Laws of the checks: sorts of rows told by their op's number, the search for the lowest number that fails, links of lower
--- rows, depth row by row, and how the checks of tables and of paths stand before what follows them.
+-- Laws of the checks: the search for the lowest number that fails, links of lower rows, depth row by row, and how the checks of tables and of paths stand before what follows them.
 -- Assumes nothing.
 use Prim.Native.Nat.{ℕ, zero, suc, _+_, _%_, _<_, _≤_, max}
 use mathlib.Core.Path.{_≡_, refl, sym, ap, _∙_}
@@ -12,51 +11,16 @@ use lib.Ieee.{Float}
 use native.Mathlib.Omega.{arith}
 use native.Mathlib.Nat.{max-le}
 use native.Mathlib.Numerals.{add-one}
-use borrow.Author.Tests.{le-leb, lt-leb, lt-ltb, le-ltb, ne-eqb, not-false}
+use borrow.Author.Tests.{lt-ltb, le-ltb, not-false}
 use Rattle.meaning.specs.Lists.{upTo, some, lowest}
 use Rattle.meaning.specs.Table.{rows, lengthAllowed, broken, accepted}
-use Rattle.meaning.specs.Rows.{code, opOf, opAt, rowsOf, firstLink, secondLink, links, linkedBelow, isNumber, isTruth, isPath, isStep, isPredicate, isUnknown, mostPathRows, pathLengthAllowed, badLiteralAt, brokenRow}
+use Rattle.meaning.specs.Rows.{opAt, rowsOf, firstLink, secondLink, links, linkedBelow, isPath, mostPathRows, pathLengthAllowed, badLiteralAt, brokenRow}
 use Rattle.meaning.specs.Tree.{linked, tree, depth, mostDepth}
 use Rattle.meaning.specs.Answers.{answer, check, tableChecks, tableAnswer, pathChecks, pathAnswer, pathTree}
 use Rattle.meaning.specs.declared.Answer.{Answer}
 use Rattle.meaning.proofs.Bools.{lt-or-ge, and-r, truly}
 use Rattle.meaning.proofs.Lists.{some-last, lowest-is, lowest-some}
-use Rattle.meaning.proofs.Trees.{agree, op-past, op-is, tree-suc}
-
--- ---- the sorts of rows, by op
-
--- ops 1 to 9 and 21 are numbers
-pub number-ops : (n : ℕ) → isNumber (opOf n) ≡ ((leb 1 n && leb n 9) || eqb n 21)
-unfolding opOf code isNumber some upTo
-number-ops = agree (λ n. isNumber (opOf n)) (λ n. (leb 1 n && leb n 9) || eqb n 21) 26 refl
-    (λ n h. rw (op-past n h, le-leb 1 n (omega arith), lt-leb n 9 (omega arith), ne-eqb n 21 (λ e. omega arith)))
-
--- ops 10 to 20 are truths
-pub truth-ops : (n : ℕ) → isTruth (opOf n) ≡ (leb 10 n && leb n 20)
-unfolding opOf code isTruth some upTo
-truth-ops = agree (λ n. isTruth (opOf n)) (λ n. leb 10 n && leb n 20) 26 refl
-    (λ n h. rw (op-past n h, le-leb 10 n (omega arith), lt-leb n 20 (omega arith)))
-
--- ops 22 and 23 are paths
-pub path-ops : (n : ℕ) → isPath (opOf n) ≡ (eqb n 22 || eqb n 23)
-unfolding isPath
-path-ops n = rw (op-is 22 n (omega arith) (omega arith), op-is 23 n (omega arith) (omega arith))
-
--- op 24 is a step
-pub step-op : (n : ℕ) → isStep (opOf n) ≡ eqb n 24
-unfolding isStep
-step-op n = op-is 24 n (omega arith) (omega arith)
-
--- op 25 is a predicate
-pub predicate-op : (n : ℕ) → isPredicate (opOf n) ≡ eqb n 25
-unfolding isPredicate
-predicate-op n = op-is 25 n (omega arith) (omega arith)
-
--- 0 and the numbers above 25 are no op
-pub unknown-ops : (n : ℕ) → isUnknown (opOf n) ≡ (eqb n 0 || ltb 25 n)
-unfolding opOf code isUnknown some upTo
-unknown-ops = agree (λ n. isUnknown (opOf n)) (λ n. eqb n 0 || ltb 25 n) 26 refl
-    (λ n h. rw (op-past n h, ne-eqb n 0 (λ e. omega arith), lt-ltb 25 n h))
+use Rattle.meaning.proofs.Trees.{tree-suc}
 
 -- ---- the search for the lowest number at which a test holds
 

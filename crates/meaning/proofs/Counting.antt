@@ -9,7 +9,8 @@ use native.Mathlib.Omega.{arith}
 use Rattle.meaning.specs.Rows.{opOf, field, firstLink, secondLink, isNumber}
 use Rattle.meaning.specs.Tree.{tree}
 use Rattle.meaning.specs.Turning.{contextual, overPath, numeric, asks, counting, counts, steps, firstCounting}
-use Rattle.meaning.proofs.Trees.{op-is, tree-zero, tree-row}
+use Rattle.meaning.proofs.Decoding.{op-is}
+use Rattle.meaning.proofs.Trees.{tree-zero, tree-row}
 
 -- ---- ops
 

@@ -20,7 +20,8 @@ use Rattle.meaning.specs.declared.Value.{Value}
 use Rattle.meaning.specs.declared.Value.the-variants.{Truth}
 use Rattle.meaning.specs.declared.Context.{Context}
 use Rattle.meaning.proofs.Bools.{eq-or-ne}
-use Rattle.meaning.proofs.Trees.{agree, op-is, op-past, past, tree-zero, tree-row}
+use Rattle.meaning.proofs.Decoding.{agree, op-is, op-past, past}
+use Rattle.meaning.proofs.Trees.{tree-zero, tree-row}
 use Rattle.meaning.proofs.Applied.{takesFirst, takesSecond, second-first, operands-no-path, applied-agrees}
 use Rattle.meaning.proofs.Marks.{listed, listed-none}
 

@@ -2,6 +2,7 @@ pub mod Bools
 pub mod Lists
 pub mod Tables
 pub mod Axes
+pub mod Decoding
 pub mod Trees
 pub mod Applied
 pub mod Free

@@ -55,8 +55,8 @@ module _ (t : List ℕ) (marks : List Bool) (x : ℕ) (clear : (y : ℕ) → get
   listed-outside l k = listed-by t marks (eqb x) (λ y m. clear y ∙ sym (ne-eqb x y (λ q. absurd (omega arith))))
 
 -- a number that is not i is below i + 1 exactly if it is below i
-past : (y i : ℕ) → ((y ≡ i) → ⊥) → ltb y i ≡ ltb y (i + 1)
-past y i q = elim (lt-or-ge y i) [
+beside : (y i : ℕ) → ((y ≡ i) → ⊥) → ltb y i ≡ ltb y (i + 1)
+beside y i q = elim (lt-or-ge y i) [
   | inl l ↦ rw (lt-ltb y i l) (sym (lt-ltb y (i + 1) (omega arith)))
   | inr l ↦ rw (le-ltb y i l) (sym (le-ltb y (i + 1) (omega (arith, q))))
 ]
@@ -161,7 +161,7 @@ module _ (g : ℕ → Bool) (old now : List Bool) where
   unfolding Wrote
   wrote-more i v h a e y = elim (eq-or-ne y i) [
     | inl q ↦ rw (q, lt-ltb i (i + 1) (omega arith)) (getD-set-same now i v false a ∙ e)
-    | inr q ↦ getD-set-other now i y v false q ∙ h y ∙ ap (λ (b : Bool). cond b (g y) (getD old y false)) (past y i q)
+    | inr q ↦ getD-set-other now i y v false q ∙ h y ∙ ap (λ (b : Bool). cond b (g y) (getD old y false)) (beside y i q)
   ]
 
   pub wrote-all : (n i : ℕ) → Wrote g old now i → n ≤ i → (y : ℕ) → y < n → getD now y false ≡ g y
@@ -188,7 +188,7 @@ module _ (g : ℕ → Bool) (n : ℕ) (old now : List Bool) where
   unfolding WroteDown
   down-more i v h a e y l = elim (eq-or-ne y i) [
     | inl q ↦ rw (q, le-ltb i i (omega arith)) (getD-set-same now i v false a ∙ e)
-    | inr q ↦ getD-set-other now i y v false q ∙ h y l ∙ ap (λ (b : Bool). cond b (getD old y false) (g y)) (sym (past y i q))
+    | inr q ↦ getD-set-other now i y v false q ∙ h y l ∙ ap (λ (b : Bool). cond b (getD old y false) (g y)) (sym (beside y i q))
   ]
 
   pub down-all : WroteDown g n old now 0 → (y : ℕ) → y < n → getD now y false ≡ g y

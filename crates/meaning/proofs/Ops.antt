@@ -13,7 +13,7 @@ use Rattle.meaning.specs.Rows.{Op, Field, opOf, code, fieldsOf, isLitera
 use Rattle.meaning.specs.Rows as R
 use Rattle.meaning.proofs.Bools.{lt-or-ge, not-false}
 use Rattle.meaning.proofs.Lists.{below-none}
-use Rattle.meaning.proofs.Trees.{op-past}
+use Rattle.meaning.proofs.Decoding.{op-past}
 
 -- an op's number decodes to the op
 pub op-code : (op : Op) → opOf (code op) ≡ op

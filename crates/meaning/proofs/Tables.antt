@@ -106,8 +106,3 @@ module _ (t : List ℕ) (acc : accepted t ≡ true) where
     | inl m ↦ inr m
     | inr m ↦ inl (nest i j h l m)
   ]
-
-  -- a subtree ends in the table
-  pub end-below : (i : ℕ) → i < rows t → end t i < rows t
-  end-below zero h = omega (arith, root-end)
-  end-below (suc i) h = omega (arith, root-end, nest 0 (suc i) h (omega arith) (omega (arith, root-end)))

@@ -6,16 +6,15 @@ use mathlib.Core.Path.{_≡_, refl, sym, ap, _∙_}
 use mathlib.Core.Logic.{⊎-elim}
 use mathlib.Core.Bool.{Bool, true, false, _&&_, _||_, cond, and-true, and-false, or-true, or-false, and-or-distrib-left, and-or-distrib-right}
 use mathlib.Core.List.{List, [], _∷_, _++_}
-use lib.Dec.{T, leb, ltb, eqb}
+use lib.Dec.{leb, ltb, eqb}
 use native.Mathlib.Omega.{arith}
 use borrow.Author.Tests.{eq-eqb, ne-eqb, lt-ltb, le-ltb, le-leb, lt-leb}
-use Rattle.meaning.specs.Lists.{keep, some, has, upTo}
-use Rattle.meaning.specs.Table.{rows, end}
-use Rattle.meaning.specs.Axis.{Axis, Test, inside, on, passes, candidates}
+use Rattle.meaning.specs.Lists.{keep, some, upTo}
+use Rattle.meaning.specs.Table.{end}
+use Rattle.meaning.specs.Axis.{inside, on}
 use Rattle.meaning.specs.Axis as A
-use Rattle.meaning.proofs.Bools.{same, and-l, and-r, and-i, lt-or-ge, eq-or-ne}
+use Rattle.meaning.proofs.Bools.{lt-or-ge, eq-or-ne}
 use Rattle.meaning.proofs.Lists.{some-append, some-same, some-last, none-below}
-use Rattle.meaning.proofs.Axes.{candidate-to, candidate-from}
 
 -- ---- some number of a window
 
@@ -133,9 +132,3 @@ following-is t x y =
 pub preceding-is : (t : List ℕ) (x y : ℕ) → on t A.preceding x y ≡ ltb (end t y) x
 unfolding on
 preceding-is t x y = following-is t y x
-
--- a row of the table is a candidate exactly if it is on the axis and passes the test
-pub candidate-is : (t : List ℕ) (a : Axis) (u : Test) (x y : ℕ) → y < rows t → has (candidates t a u x) y ≡ (on t a x y && passes t u y)
-candidate-is t a u x y l = same (has (candidates t a u x) y) (on t a x y && passes t u y)
-    (λ h. let r : T (on t a x y) × T (passes t u y) × (y < rows t) = candidate-to t a u x y h in and-i (on t a x y) (passes t u y) (r .0) (r .1))
-    (λ h. candidate-from t a u x y (and-l (on t a x y) (passes t u y) h) (and-r (on t a x y) (passes t u y) h) l)

@@ -15,7 +15,8 @@ use Rattle.meaning.specs.Rows.{code, opOf, opAt, field, isLiteral, first
 use Rattle.meaning.specs.Tree.{tree, indexOrAxis, testAt}
 use Rattle.meaning.specs.Turning.{inverses, inverseOf, predicates, test, weight, link, row, written}
 use Rattle.meaning.proofs.Bools.{eq-or-ne}
-use Rattle.meaning.proofs.Trees.{past-axes, op-past, code-of, tree-zero, tree-row}
+use Rattle.meaning.proofs.Decoding.{past-axes, op-past, code-of}
+use Rattle.meaning.proofs.Trees.{tree-zero, tree-row}
 use Rattle.meaning.proofs.ReadBack.{length-written}
 
 -- ---- stores

@@ -13,7 +13,7 @@ use Rattle.meaning.specs.Lists.{some, upTo}
 use Rattle.meaning.specs.Rows.{Op, unknown, Field, unused, index, axis, test, number-link, truth-link, expression-link, path-link, step-link, step-or-none, predicate-or-none, opOf, fieldsOf, isLink, mayMiss, goodLink, goodField}
 use Rattle.meaning.proofs.Bools.{lt-or-ge}
 use Rattle.meaning.proofs.Lists.{below-none}
-use Rattle.meaning.proofs.Trees.{op-past, agree}
+use Rattle.meaning.proofs.Decoding.{op-past, agree}
 use Rattle.path.specs.Kinds.{kinds, fieldOf}
 
 -- the number of a kind, which decodes to it

@@ -9,7 +9,8 @@ use native.Mathlib.Omega.{arith}
 use Rattle.meaning.specs.Rows.{field, firstLink, secondLink}
 use Rattle.meaning.specs.Tree.{tree}
 use Rattle.meaning.specs.Turning.{counting}
-use Rattle.meaning.proofs.Trees.{op-is, tree-zero, tree-row}
+use Rattle.meaning.proofs.Decoding.{op-is}
+use Rattle.meaning.proofs.Trees.{tree-zero, tree-row}
 use Rattle.path.specs.Heavy.{heavy}
 
 module _ (p : List ℕ) (l : ℕ) where

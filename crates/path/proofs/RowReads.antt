@@ -9,7 +9,7 @@ use native.Mathlib.Omega.{arith}
 use borrow.Author.Tests.{leb-true, eq-eqb, ne-eqb}
 use Rattle.meaning.specs.Rows.{opOf, field, fieldsOf, isLink, isLiteral, isStep, follow, firstLink, secondLink}
 use Rattle.meaning.specs.Tree.{indexOrAxis, testAt}
-use Rattle.meaning.proofs.Trees.{op-is}
+use Rattle.meaning.proofs.Decoding.{op-is}
 
 -- a link that is in a link field and in range, and one that is not
 taken : (h : Bool) (l r : ℕ) → (h && leb l r) ≡ true → l ≡ cond h (follow r l) 0

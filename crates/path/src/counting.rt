@@ -22,7 +22,7 @@ fn is_contextual(op: usize) -> bool
 }
 
 // Ops 20 and 21: over a path of their own.
-fn is_over_path(op: usize) -> bool
+pub fn is_over_path(op: usize) -> bool
     ensures { λ r. ⌜ r ≡ turning.overPath (opOf op) ⌝ }
 {
     either(same(op, 20), same(op, 21))

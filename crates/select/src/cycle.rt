@@ -13,7 +13,6 @@ use crate::marks::sift;
 use crate::marks::start_mark;
 use crate::values::apply;
 use crate::values::float_of;
-use crate::values::is_over_path;
 use crate::values::keeps;
 use crate::values::takes_first;
 use crate::values::takes_second;
@@ -25,6 +24,7 @@ use meaning::Value;
 use path::counting::counting;
 use path::counting::counts;
 use path::counting::is_heavy;
+use path::counting::is_over_path;
 use path::field_at;
 use path::first_link;
 use path::index_or_axis;
@@ -112,17 +112,12 @@ fn keep(
     while i < k {
         let y = list[i];
         let position = float_of(i + 1);
-        let v = expression(
-            table,
-            path,
-            literals,
-            test,
-            Context {
-                node: wide(y),
-                position,
-                size,
-            },
-        );
+        let context = Context {
+            node: wide(y),
+            position,
+            size,
+        };
+        let v = expression(table, path, literals, test, context);
         if keeps(v, position) {
             list[m] = y;
             m += 1;
@@ -205,17 +200,12 @@ fn decide_each(
     let mut i = 0;
     while i < n {
         if states[i] == active {
-            let v = expression(
-                table,
-                path,
-                literals,
-                link,
-                Context {
-                    node: i,
-                    position: unasked,
-                    size: unasked,
-                },
-            );
+            let context = Context {
+                node: i,
+                position: unasked,
+                size: unasked,
+            };
+            let v = expression(table, path, literals, link, context);
             states[i] = choose(truth_of(v), active, active + 1);
         }
         i += 1;

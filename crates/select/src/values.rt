@@ -14,7 +14,6 @@ ghost use lib.Ieee.{nan};
 ghost use lib.Ieee.Exact.{HasValue};
 ghost use Rattle.meaning.specs.Table.{mostRows};
 ghost use Rattle.meaning.specs.Rows.{opOf};
-ghost use Rattle.meaning.specs.Turning.{overPath};
 ghost use Rattle.meaning.specs.Meaning.{float, numberOf, truthOf, applied};
 ghost use Rattle.meaning.specs.Meaning as Meaning;
 ghost use Rattle.meaning.proofs.Applied.{takesFirst, takesSecond};
@@ -71,13 +70,6 @@ fn literal_at(literals: &[f64], i: usize) -> f64
     } else {
         0.0 / 0.0
     }
-}
-
-// Is the op exists or count?
-pub fn is_over_path(op: usize) -> bool
-    ensures { λ r. ⌜ r ≡ overPath (opOf op) ⌝ }
-{
-    either(same(op, 20), same(op, 21))
 }
 
 // Does the op take a first operand, and a second?

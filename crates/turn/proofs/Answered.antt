@@ -19,7 +19,8 @@ use Rattle.meaning.specs.Answers.{answer, pathTree, pathAnswer, output, countin
 use Rattle.meaning.specs.declared.Answer.{Answer}
 use Rattle.meaning.proofs.Bools.{or-none-l, or-none-r}
 use Rattle.meaning.proofs.Lists.{below-none}
-use Rattle.meaning.proofs.Trees.{first-le, op-is, tree-zero, tree-row}
+use Rattle.meaning.proofs.Decoding.{op-is}
+use Rattle.meaning.proofs.Trees.{first-le, tree-zero, tree-row}
 use Rattle.meaning.proofs.Checks.{path-passes, path-stops}
 use Rattle.meaning.proofs.Paths.{AcceptedPath, path-accepted, some-path-row, few-path-rows, top-is-path, all-rows}
 use Rattle.meaning.proofs.ReadBack.{length-written, link-zero}

@@ -1,7 +1,7 @@
 -- `path::has_first` meets its contract: the ops with a link in field a are 4 to 25, computed over the table of ops.
 -- Assumes nothing.
 use borrow.Author.Needs.{needs}
-use Rattle.meaning.proofs.Trees.{first-ops}
+use Rattle.meaning.proofs.Decoding.{first-ops}
 use Rattle.path.proofs.has_first.Statement.{statement}
 use Rattle.path.proofs.has_first.Tie as tie
 

@@ -1,7 +1,7 @@
 -- `path::has_second` meets its contract: the ops with a link in field b, computed over the table of ops.
 -- Assumes nothing.
 use borrow.Author.Needs.{needs}
-use Rattle.meaning.proofs.Trees.{second-ops}
+use Rattle.meaning.proofs.Decoding.{second-ops}
 use Rattle.path.proofs.has_second.Statement.{statement}
 use Rattle.path.proofs.has_second.Tie as tie
 

@@ -2,7 +2,7 @@
 -- Assumes nothing.
 use borrow.Author.Needs.{needs}
 use Rattle.meaning.specs.Axis as A
-use Rattle.meaning.proofs.Trees.{axis-rest}
+use Rattle.meaning.proofs.Decoding.{axis-rest}
 use Rattle.reach.proofs.Sweep.{self-hits}
 use Rattle.reach.proofs.reach.Statement.{statement}
 use Rattle.reach.proofs.reach.Tie as tie

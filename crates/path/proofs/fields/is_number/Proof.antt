@@ -1,7 +1,7 @@
 -- `path::fields::is_number` meets its contract: the ops that are numbers, computed over the table of ops.
 -- Assumes nothing.
 use borrow.Author.Needs.{needs}
-use Rattle.meaning.proofs.Checks.{number-ops}
+use Rattle.meaning.proofs.Decoding.{number-ops}
 use Rattle.path.proofs.fields.is_number.Statement.{statement}
 use Rattle.path.proofs.fields.is_number.Tie as tie
 

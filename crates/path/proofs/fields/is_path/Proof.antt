@@ -1,7 +1,7 @@
 -- `path::fields::is_path` meets its contract: an op is told by its number.
 -- Assumes nothing.
 use borrow.Author.Needs.{needs}
-use Rattle.meaning.proofs.Checks.{path-ops}
+use Rattle.meaning.proofs.Decoding.{path-ops}
 use Rattle.path.proofs.fields.is_path.Statement.{statement}
 use Rattle.path.proofs.fields.is_path.Tie as tie
 

@@ -1,7 +1,7 @@
 -- `path::fields::is_predicate` meets its contract: an op is told by its number.
 -- Assumes nothing.
 use borrow.Author.Needs.{needs}
-use Rattle.meaning.proofs.Checks.{predicate-op}
+use Rattle.meaning.proofs.Decoding.{predicate-op}
 use Rattle.path.proofs.fields.is_predicate.Statement.{statement}
 use Rattle.path.proofs.fields.is_predicate.Tie as tie
 

@@ -1,7 +1,7 @@
 -- `path::fields::is_step` meets its contract: an op is told by its number.
 -- Assumes nothing.
 use borrow.Author.Needs.{needs}
-use Rattle.meaning.proofs.Checks.{step-op}
+use Rattle.meaning.proofs.Decoding.{step-op}
 use Rattle.path.proofs.fields.is_step.Statement.{statement}
 use Rattle.path.proofs.fields.is_step.Tie as tie
 

@@ -1,7 +1,7 @@
 -- `path::fields::is_truth` meets its contract: the ops that are truths, computed over the table of ops.
 -- Assumes nothing.
 use borrow.Author.Needs.{needs}
-use Rattle.meaning.proofs.Checks.{truth-ops}
+use Rattle.meaning.proofs.Decoding.{truth-ops}
 use Rattle.path.proofs.fields.is_truth.Statement.{statement}
 use Rattle.path.proofs.fields.is_truth.Tie as tie
 

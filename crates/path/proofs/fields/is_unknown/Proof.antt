@@ -1,7 +1,7 @@
 -- `path::fields::is_unknown` meets its contract: 0 and what is above 25 is no op, computed over the table of ops.
 -- Assumes nothing.
 use borrow.Author.Needs.{needs}
-use Rattle.meaning.proofs.Checks.{unknown-ops}
+use Rattle.meaning.proofs.Decoding.{unknown-ops}
 use Rattle.path.proofs.fields.is_unknown.Statement.{statement}
 use Rattle.path.proofs.fields.is_unknown.Tie as tie
 

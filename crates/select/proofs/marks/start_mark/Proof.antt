@@ -6,7 +6,7 @@ use native.Mathlib.Omega.{arith}
 use borrow.Author.Needs.{needs}
 use borrow.Author.Tests.{eq-eqb, ne-eqb}
 use Rattle.meaning.specs.Meaning.{startOf, isAbsolute}
-use Rattle.meaning.proofs.Trees.{op-is}
+use Rattle.meaning.proofs.Decoding.{op-is}
 use Rattle.meaning.proofs.Marks.{listed-one, listed-outside}
 use Rattle.select.proofs.marks.start_mark.Statement.{statement}
 use Rattle.select.proofs.marks.start_mark.Tie as tie

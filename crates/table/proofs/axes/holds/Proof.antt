@@ -1,7 +1,7 @@
 -- `table::axes::holds` meets its contract: one answer for each axis, by its number; what is none of 1 to 10 reads as self.
 -- Assumes nothing.
 use borrow.Author.Needs.{needs}
-use Rattle.meaning.proofs.Trees.{axis-rest}
+use Rattle.meaning.proofs.Decoding.{axis-rest}
 use Rattle.meaning.specs.Axis as A
 use Rattle.table.proofs.axes.holds.Statement.{statement}
 use Rattle.table.proofs.axes.holds.Tie as tie

@@ -1,7 +1,7 @@
 -- `table::axes::is_reverse` meets its contract: which axes run backwards is computed over the eleven.
 -- Assumes nothing.
 use borrow.Author.Needs.{needs}
-use Rattle.meaning.proofs.Trees.{reverse-axes}
+use Rattle.meaning.proofs.Decoding.{reverse-axes}
 use Rattle.table.proofs.axes.is_reverse.Statement.{statement}
 use Rattle.table.proofs.axes.is_reverse.Tie as tie
 

@@ -1,7 +1,7 @@
 -- `table::axes::passes_test` meets its contract: one answer for each test, by its number; what is none of 0 to 4 asks for a name.
 -- Assumes nothing.
 use borrow.Author.Needs.{needs}
-use Rattle.meaning.proofs.Trees.{test-rest}
+use Rattle.meaning.proofs.Decoding.{test-rest}
 use Rattle.meaning.specs.Axis as A
 use Rattle.table.proofs.axes.passes_test.Statement.{statement}
 use Rattle.table.proofs.axes.passes_test.Tie as tie
