@@ -7,8 +7,8 @@
  * times at four sizes, the two others' at the largest, how each grows from
  * the smallest to the largest size, and ours over the faster of the two.
  * Each cell runs in a process of its own, which the cap can end. Quick cells
- * are run in several rounds, all sizes and engines in turn, and the least time
- * counts: a machine that is slow for a while then slows no single cell.
+ * are run in several rounds through all queries, sizes and engines, and the
+ * least time counts: a machine that is slow for a while slows no single cell.
  */
 #include "documents.h"
 #include "engines.h"
@@ -267,38 +267,43 @@ static void spell(const char *query, enum shape shape, char *to)
     *to = 0;
 }
 
-static bool run_query(enum shape shape, const struct query *asked)
+/* one round of a query: all its cells at first, the quick ones again later */
+static void run_round(enum shape shape, const char *query, int round, struct cell cells[ENGINES][SIZES])
 {
     static uint32_t table[4 * MAX_ROWS];
-    struct cell cells[ENGINES][SIZES];
-    char query[512];
-    spell(asked->text, shape, query);
-    memset(cells, 0, sizeof cells);
-    for (int round = 0; round < ROUNDS; round++)
-        for (int s = 0; s < SIZES; s++) {
-            build_table(shape, sizes[s], table);
-            char *xml = xml_of_table(table, sizes[s]);
-            struct question question = {table, sizes[s], xml, query};
-            for (int e = 0; e < ENGINES; e++)
-                if (round == 0 && (s == 0 || cells[e][s - 1].done))
-                    cells[e][s] = run_cell(engines[e], &question);
-                else if (cells[e][s].done && cells[e][s].seconds < QUICK)
-                    run_again(&cells[e][s], engines[e], &question);
-            free(xml);
-        }
-    print_row(asked->label ? asked->label : query, asked->label == NULL, cells);
-    return same_answers(query, cells);
+    for (int s = 0; s < SIZES; s++) {
+        build_table(shape, sizes[s], table);
+        char *xml = xml_of_table(table, sizes[s]);
+        struct question question = {table, sizes[s], xml, query};
+        for (int e = 0; e < ENGINES; e++)
+            if (round == 0 && (s == 0 || cells[e][s - 1].done))
+                cells[e][s] = run_cell(engines[e], &question);
+            else if (cells[e][s].done && cells[e][s].seconds < QUICK)
+                run_again(&cells[e][s], engines[e], &question);
+        free(xml);
+    }
 }
 
 static bool run_shape(enum shape shape)
 {
+    static struct cell cells[QUERIES][ENGINES][SIZES];
+    char spelt[QUERIES][512];
     bool same = true;
+    memset(cells, 0, sizeof cells);
+    for (int round = 0; round < ROUNDS; round++)
+        for (int q = 0; q < QUERIES; q++) {
+            spell(queries[q].text, shape, spelt[q]);
+            run_round(shape, spelt[q], round, cells[q]);
+        }
     printf("\n### %s\n\n", shape_names[shape]);
     printf("| path | selected | ours 512 | ours 1,024 | ours 2,048 | ours 4,096 | growth "
            "| pugixml 4,096 | growth | libxml2 4,096 | growth | ours / faster |\n");
     printf("|---|--:|--:|--:|--:|--:|--:|--:|--:|--:|--:|--:|\n");
-    for (int q = 0; q < QUERIES; q++)
-        same = run_query(shape, &queries[q]) && same;
+    for (int q = 0; q < QUERIES; q++) {
+        const char *label = queries[q].label;
+        print_row(label ? label : spelt[q], label == NULL, cells[q]);
+        same = same_answers(spelt[q], cells[q]) && same;
+    }
     return same;
 }
 

@@ -55,11 +55,14 @@ pub fn copy_marks(table: &[u32], from: &[bool], to: &mut [bool])
     }
 }
 
-// Of the marked rows those stay marked that pass the test.
+// Of the marked rows those stay marked that pass the test. Every row passes test 0.
 pub fn sift(table: &[u32], test: usize, marks: &mut [bool])
     requires { ⌜ (rows (now table) ≤ mostRows) × (rows (now table) ≤ length (now marks)) ⌝ }
     ensures { λ _. ⌜ Sifted (now (table .entry)) test (now (marks .entry)) (now (marks .exit)) ⌝ }
 {
+    if test == 0 {
+        return;
+    }
     let n = row_count(table);
     let mut i = 0;
     while i < n {

@@ -1,8 +1,8 @@
--- `marks::sift` meets its contract: each mark passed stays where its row passes the test. The measure is what is left of the rows.
+-- `marks::sift` meets its contract: each mark passed stays where its row passes the test, which all do for test 0. The measure is what is left of the rows.
 -- Assumes nothing.
 use Prim.Native.Nat.{_-_, _≤_}
-use mathlib.Core.Path.{_≡_, refl, _∙_}
-use mathlib.Core.Bool.{false, _&&_}
+use mathlib.Core.Path.{_≡_, refl, sym, _∙_}
+use mathlib.Core.Bool.{false, _&&_, and-true}
 use lib.ListN.{length, getD, length-set}
 use native.Mathlib.Omega.{arith}
 use borrow.Author.Needs.{needs}
@@ -18,6 +18,10 @@ Inv-loop table test marks₀ n i₀ marks i = (i ≤ n) × (n ≡ rows table) ×
 
 abbrev μ-loop : tie.MeasureT-loop
 μ-loop table test marks₀ n i₀ marks i = n - i
+
+returns : tie.Need-returns Inv-loop μ-loop
+unfolding Sifted passes testOf
+returns c y l = rw (c .if1 .taken) (sym (and-true (getD (c .before .before .before .args .marks .now) y false)))
 
 row-count-requires : tie.Need-row-count-requires Inv-loop μ-loop
 row-count-requires c κs = search needs
@@ -52,9 +56,9 @@ loop-again c =
 same-length : tie.Need-same-length Inv-loop μ-loop
 same-length c = search needs
 
-returns : tie.Need-returns Inv-loop μ-loop
+returns-2 : tie.Need-returns-2 Inv-loop μ-loop
 unfolding Sifted
-returns c = wrote-all _ _ _ _ _ (c .before .loop .inv .3) (omega arith)
+returns-2 c = wrote-all _ _ _ _ _ (c .before .loop .inv .3) (omega arith)
 
 pub sift-spec : {M : Type 1} → statement M
 sift-spec =
@@ -62,6 +66,7 @@ sift-spec =
     (tie.spec
     Inv-loop
     μ-loop
+    returns
     row-count-requires
     loop-holds
     slice-read-both
@@ -72,4 +77,4 @@ sift-spec =
     loop-less
     loop-again
     same-length
-    returns)
+    returns-2)
