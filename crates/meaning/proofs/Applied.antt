@@ -2,20 +2,21 @@
 -- table of ops.
 -- Assumes nothing.
 use Prim.Native.Nat.{ℕ, _≤_}
-use mathlib.Core.Path.{_≡_, refl}
+use mathlib.Core.Path.{_≡_, refl, sym, ap, _∙_}
 use mathlib.Core.Bool.{Bool, true, false, _&&_, _||_, not, true≢false}
 use mathlib.Core.List.{List}
-use lib.Dec.{leb, eqb, leb→le}
+use lib.Dec.{T, leb, eqb, leb→le, eqb→eq}
 use lib.Ieee.{Float}
 use native.Mathlib.Omega.{arith}
 use borrow.Author.Tests.{ne-eqb}
-use Rattle.meaning.specs.Rows.{Op, code, isNumber}
+use Rattle.meaning.specs.Rows.{Op, code, opOf, isNumber}
 use Rattle.meaning.specs.Rows as R
 use Rattle.meaning.specs.Meaning.{applied, holds, truthOf}
 use Rattle.meaning.specs.Turning.{contextual, overPath}
 use Rattle.meaning.specs.declared.Value.{Value}
 use Rattle.meaning.specs.declared.Context.{Context}
-use Rattle.meaning.proofs.Bools.{and-l, and-r, is-true, truly}
+use Rattle.meaning.proofs.Bools.{and-l, and-r, or-e, not-e, is-true, is-false, truly}
+use Rattle.meaning.proofs.Ops.{op-code}
 
 -- ops 4 to 19 take a first operand
 unfoldable pub takesFirst : Op → Bool
@@ -24,6 +25,10 @@ takesFirst op = leb 4 (code op) && leb (code op) 19
 -- of these all but 9, 18 and 19 take a second
 unfoldable pub takesSecond : Op → Bool
 takesSecond op = takesFirst op && not (eqb (code op) 9 || leb 18 (code op))
+
+-- an and is decided by a first operand that does not hold, an or by one that holds
+unfoldable pub decides : Op → Value → Bool
+decides op u = (eqb (code op) 16 && not (truthOf u)) || (eqb (code op) 17 && truthOf u)
 
 -- an op that takes a second operand takes a first
 pub second-first : (op : Op) → takesSecond op ≡ true → takesFirst op ≡ true
@@ -72,6 +77,18 @@ module _ (literals : List Float) (i : ℕ) (u v u' v' : Value) (n n' : ℕ) (x x
   applied-agrees R.step f s p c = refl
   applied-agrees R.predicate f s p c = refl
   applied-agrees R.unknown f s p c = refl
+
+-- an op is told by its number
+named : (op : Op) (k : ℕ) → T (eqb (code op) k) → op ≡ opOf k
+named op k h = sym (op-code op) ∙ ap opOf (eqb→eq (code op) k h)
+
+module _ (literals : List Float) (i : ℕ) (u v w : Value) (n : ℕ) (x : Context) where
+  -- what the first operand decides does not depend on the second
+  pub decided : (op : Op) → decides op u ≡ true → applied literals op i u v n x ≡ applied literals op i u w n x
+  unfolding decides applied opOf
+  decided op h = or-e (eqb (code op) 16 && not (truthOf u)) (eqb (code op) 17 && truthOf u) (truly h)
+      (λ k. rw (named op 16 (and-l (eqb (code op) 16) (not (truthOf u)) k), is-false (truthOf u) (not-e (truthOf u) (and-r (eqb (code op) 16) (not (truthOf u)) k))))
+      (λ k. rw (named op 17 (and-l (eqb (code op) 17) (truthOf u) k), is-true (truthOf u) (and-r (eqb (code op) 17) (truthOf u) k)))
 
 module _ (literals : List Float) (i : ℕ) (u v : Value) (n : ℕ) (x : Context) (p : Float) where
   -- a value of an op that is not a number is a truth, whatever the position

@@ -22,7 +22,7 @@ use Rattle.meaning.specs.declared.Context.{Context}
 use Rattle.meaning.proofs.Bools.{eq-or-ne}
 use Rattle.meaning.proofs.Decoding.{agree, op-is, op-past, past}
 use Rattle.meaning.proofs.Trees.{tree-zero, tree-row}
-use Rattle.meaning.proofs.Applied.{takesFirst, takesSecond, second-first, operands-no-path, applied-agrees}
+use Rattle.meaning.proofs.Applied.{takesFirst, takesSecond, second-first, operands-no-path, applied-agrees, decides, decided}
 use Rattle.meaning.proofs.Marks.{listed, listed-none}
 
 -- ---- ops by their numbers
@@ -138,6 +138,13 @@ module _ (t : List ℕ) (literals : List Float) (p : List ℕ) (l : ℕ) (some-r
           (λ q. rw (← e) g)
           (λ q. rw (← f) h)
           (λ q. absurd (true≢false (sym q ∙ sym is-over ∙ not-over))) is-r
+
+      -- an and or an or that its first operand decides
+      pub value-decided : (a : ℕ) (b : Bool) → a ≡ firstLink p (l - 1) → u ≡ value t literals (tree p a) x → b ≡ decides (opOf op) u → b ≡ true → r ≡ value t literals (tree p l) x
+      value-decided a b e g h k = value-by u (value t literals (tree p (secondLink p (l - 1))) x) n
+          (λ q. rw (← e) g)
+          (λ q. refl)
+          (λ q. absurd (true≢false (sym q ∙ sym is-over ∙ not-over))) (is-r ∙ decided literals index u v (value t literals (tree p (secondLink p (l - 1))) x) n x (opOf op) (sym h ∙ k))
 
       -- an op that takes one
       pub value-one : (a : ℕ) (two : Bool) → two ≡ takesSecond (opOf op) → two ≡ false → a ≡ firstLink p (l - 1) → u ≡ value t literals (tree p a) x → r ≡ value t literals (tree p l) x

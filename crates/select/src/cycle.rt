@@ -13,6 +13,7 @@ use crate::marks::sift;
 use crate::marks::start_mark;
 use crate::values::apply;
 use crate::values::float_of;
+use crate::values::is_decided;
 use crate::values::keeps;
 use crate::values::takes_first;
 use crate::values::takes_second;
@@ -77,6 +78,9 @@ fn expression(table: &[u32], path: &[u32], literals: &[f64], link: usize, contex
     if takes_second(op) {
         let second = second_link(path, row);
         let u = expression(table, path, literals, first, context);
+        if is_decided(op, u) {
+            return apply(literals, op, index, u, none, 0, context);
+        }
         let v = expression(table, path, literals, second, context);
         return apply(literals, op, index, u, v, 0, context);
     }

@@ -16,7 +16,7 @@ ghost use Rattle.meaning.specs.Table.{mostRows};
 ghost use Rattle.meaning.specs.Rows.{opOf};
 ghost use Rattle.meaning.specs.Meaning.{float, numberOf, truthOf, applied};
 ghost use Rattle.meaning.specs.Meaning as Meaning;
-ghost use Rattle.meaning.proofs.Applied.{takesFirst, takesSecond};
+ghost use Rattle.meaning.proofs.Applied.{takesFirst, takesSecond, decides};
 
 // A whole number as a double, exactly: no sign, and n over 1.
 pub fn float_of(n: usize) -> f64
@@ -83,6 +83,14 @@ pub fn takes_second(op: usize) -> bool
     ensures { λ r. ⌜ r ≡ takesSecond (opOf op) ⌝ }
 {
     both(both(at_most(4, op), at_most(op, 17)), !same(op, 9))
+}
+
+// Does the first operand of an and or an or decide it?
+pub fn is_decided(op: usize, u: Value) -> bool
+    ensures { λ r. ⌜ r ≡ decides (opOf op) u ⌝ }
+{
+    let holds = truth_of(u);
+    either(both(same(op, 16), !holds), both(same(op, 17), holds))
 }
 
 // The table of ops: u and v are the operands, n is how many nodes the op's path selects.

@@ -2,7 +2,7 @@
 -- Assumes nothing.
 use Prim.Native.Nat.{ℕ}
 use borrow.Author.Needs.{needs}
-use Rattle.meaning.proofs.Evaluation.{value-none, value-over-path, value-leaf, value-one, value-two}
+use Rattle.meaning.proofs.Evaluation.{value-none, value-over-path, value-leaf, value-one, value-two, value-decided}
 use Rattle.select.proofs.cycle.expression.Reads as reads
 use Rattle.select.proofs.cycle.+back+decide+decide_back+decide_each+decide_not+decide_pair+decide_path+expression+keep+narrow+select+spread+step+step_back+stride+tally+thin+walk.Lts-expression as lts
 use Rattle.select.proofs.cycle.+back+decide+decide_back+decide_each+decide_not+decide_pair+decide_path+expression+keep+narrow+select+spread+step+step_back+stride+tally+thin+walk.Proof.Shared.{expression-at as given, expression-calls as calls}
@@ -44,14 +44,23 @@ module _ (t : ℕ) where
   pub expression-requires : lts.Need-expression-requires (calls t) (given t) reads.Post
   expression-requires c κs = search needs
 
-  pub expression-requires-2 : lts.Need-expression-requires-2 (calls t) (given t) reads.Post
-  expression-requires-2 c κs = search needs
+  pub is-decided-requires : lts.Need-is-decided-requires (calls t) (given t) reads.Post
+  is-decided-requires c κs = search needs
 
   pub apply-requires-2 : lts.Need-apply-requires-2 (calls t) (given t) reads.Post
   apply-requires-2 c κs = search needs
 
   pub returns-3 : lts.Need-returns-3 (calls t) (given t) reads.Post
-  returns-3 c = search value-two
+  returns-3 c = search value-decided
+
+  pub expression-requires-2 : lts.Need-expression-requires-2 (calls t) (given t) reads.Post
+  expression-requires-2 c κs = search needs
+
+  pub apply-requires-3 : lts.Need-apply-requires-3 (calls t) (given t) reads.Post
+  apply-requires-3 c κs = search needs
+
+  pub returns-4 : lts.Need-returns-4 (calls t) (given t) reads.Post
+  returns-4 c = search value-two
 
   pub takes-first-requires : lts.Need-takes-first-requires (calls t) (given t) reads.Post
   takes-first-requires c κs = search needs
@@ -59,14 +68,14 @@ module _ (t : ℕ) where
   pub expression-requires-3 : lts.Need-expression-requires-3 (calls t) (given t) reads.Post
   expression-requires-3 c κs = search needs
 
-  pub apply-requires-3 : lts.Need-apply-requires-3 (calls t) (given t) reads.Post
-  apply-requires-3 c κs = search needs
-
-  pub returns-4 : lts.Need-returns-4 (calls t) (given t) reads.Post
-  returns-4 c = search value-one
-
   pub apply-requires-4 : lts.Need-apply-requires-4 (calls t) (given t) reads.Post
   apply-requires-4 c κs = search needs
 
   pub returns-5 : lts.Need-returns-5 (calls t) (given t) reads.Post
-  returns-5 c = search value-leaf
+  returns-5 c = search value-one
+
+  pub apply-requires-5 : lts.Need-apply-requires-5 (calls t) (given t) reads.Post
+  apply-requires-5 c κs = search needs
+
+  pub returns-6 : lts.Need-returns-6 (calls t) (given t) reads.Post
+  returns-6 c = search value-leaf

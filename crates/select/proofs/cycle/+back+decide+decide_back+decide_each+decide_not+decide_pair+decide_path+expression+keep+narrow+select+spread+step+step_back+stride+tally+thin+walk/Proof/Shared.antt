@@ -81,6 +81,7 @@ use Rattle.select.proofs.marks.start_mark.Reads as start-mark-reads
 use Rattle.select.proofs.values.apply.Reads as apply-reads
 use Rattle.select.proofs.values.float_of.Reads as float-of-reads
 use Rattle.path.proofs.counting.is_over_path.Reads as is-over-path-reads
+use Rattle.select.proofs.values.is_decided.Reads as is-decided-reads
 use Rattle.select.proofs.values.keeps.Reads as keeps-reads
 use Rattle.select.proofs.values.takes_first.Reads as takes-first-reads
 use Rattle.select.proofs.values.takes_second.Reads as takes-second-reads
@@ -398,6 +399,8 @@ expression-calls t = (
   second-link-reads.Learnt,
   expression-below t,
   expression.Post,
+  is-decided-reads.Asked,
+  is-decided-reads.Learnt,
   takes-first-reads.Asked,
   takes-first-reads.Learnt,
 )
