@@ -22,7 +22,7 @@
 #include <time.h>
 #include <unistd.h>
 
-enum { SIZES = 4, ENGINES = 3, MAX_ROWS = 4096, SAMPLES = 31, ROUNDS = 5 };
+enum { SIZES = 4, ENGINES = 3, MAX_ROWS = 4096, SAMPLES = 31, ROUNDS = 9 };
 
 /* a cell that takes longer is run in one round alone */
 static const double QUICK = 0.005;
@@ -127,7 +127,7 @@ static struct cell measure(const struct engine *engine, const struct question *q
     static uint32_t nodes[MAX_ROWS];
     struct cell cell = {true, 0, 0, 0};
     void *state = engine->open(question);
-    limit_time(cap + 1);
+    limit_time(cap + 5);
     cell.seconds = median_time(engine, state);
     limit_time(3 * cap + 10);
     cell.done = cell.seconds <= cap;
@@ -312,9 +312,10 @@ int main(int argc, char **argv)
     bool same = true;
     if (argc > 1)
         cap = strtod(argv[1], NULL);
-    printf("Thread CPU time, medians; pugixml %s, libxml2 %s; cap %.0f s a run. Growth is the time on 4,096 rows\n"
-           "over the time on 512. Ours: one bt_evaluate, all checks included. The others: one evaluation of a\n"
-           "query that was compiled before, on a document that was parsed before.\n",
+    printf("Thread CPU time, medians, below 5 ms the least of nine; pugixml %s, libxml2 %s; cap %.0f s a\n"
+           "run. Growth is the time on 4,096 rows over the time on 512. Ours: one bt_evaluate, all checks\n"
+           "included. The others: one evaluation of a query that was compiled before, on a document that was\n"
+           "parsed before.\n",
            pugixml_version(), libxml2_version(), cap);
     for (int shape = 0; shape < SHAPES; shape++)
         if (argc < 3 || strcmp(argv[2], shape_names[shape]) == 0)
