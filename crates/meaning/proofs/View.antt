@@ -191,6 +191,13 @@ viewable-rises t l v h =
     let a : T (ascending t l) = search (and-l, and-r, truly) in
     ascending-rises t l (is-true (ascending t l) a)
 
+-- and its node is a row
+pub viewable-row : (t l : List ℕ) (v : ℕ) → viewable t l v ≡ true → v < rows t
+unfolding viewable
+viewable-row t l v h =
+    let a : T (ltb v (rows t)) = search (and-l, and-r, truly) in
+    ltb→lt v (rows t) a
+
 -- the view shows exactly the entries from v to v + size(v)
 pub view-kept : (t l : List ℕ) (v : ℕ) → viewable t l v ≡ true → viewed t l v ≡ keep (λ y. leb v y && leb y (end t v)) l
 unfolding viewed begins ends

@@ -5,6 +5,7 @@
 use basics::below;
 use basics::both;
 use basics::either;
+use meaning::MOST_ROWS;
 use table::end_at;
 use table::parent_at;
 use table::row_count;
@@ -18,9 +19,6 @@ ghost use Rattle.meaning.specs.Table.{mostRows, rows, end};
 ghost use Rattle.meaning.specs.Axis.{axisOf};
 ghost use Rattle.meaning.specs.Axis.Axis.{child, parent, descendant, ancestor, descendant-or-self, ancestor-or-self, following, preceding, following-sibling, preceding-sibling};
 ghost use Rattle.reach.specs.Reach.{Hits, Room, beyond};
-
-// The most rows of a table: a flag for each.
-const MOST_ROWS: usize = 4096;
 
 // A number that no subtree's end reaches.
 const BEYOND: usize = 8589934592;

@@ -28,7 +28,8 @@ use Rattle.meaning.proofs.Near.{ahead, Covers, covers-agree, covers-all, covers
 use Rattle.reach.specs.Reach.{hit, Hits}
 use Rattle.sieve.specs.Sieve.{state, Recast, Exchanged, Sieved, Bounded, Retained}
 use Rattle.sieve.proofs.Sieves.{sieved-agree, sieved-bounded, recast-bounded, pair-sieved, not-sieved, thinned-state, thinned-bounded, settled-marks, settled-bounded, retained-marks}
-use Rattle.select.specs.Sets.{Sifted, Met, Joined, Narrowed, Thinned, LedBy, Led, Covered}
+use Rattle.marks.specs.Sets.{Sifted, Met, Joined}
+use Rattle.select.specs.Sets.{Narrowed, Thinned, LedBy, Led, Covered}
 
 module _ (t : List ℕ) (literals : List Float) where
   -- the rows that pass a test and the predicates behind it

@@ -2,30 +2,17 @@
 -- Assumes nothing: these are definitions.
 use Prim.Native.Nat.{ℕ, _<_}
 use mathlib.Core.Path.{_≡_}
-use mathlib.Core.Bool.{Bool, true, false, _&&_, _||_}
+use mathlib.Core.Bool.{Bool, true, false, _&&_}
 use mathlib.Core.List.{List}
 use lib.Dec.{eqb}
 use lib.ListN.{getD}
 use lib.Ieee.{Float}
 use Rattle.meaning.specs.Table.{rows}
-use Rattle.meaning.specs.Axis.{passes, testOf}
 use Rattle.meaning.specs.Tree.{Tree}
 use Rattle.meaning.proofs.Free.{ok}
 use Rattle.meaning.proofs.Backward.{before}
 use Rattle.meaning.proofs.Near.{backsNear, ahead, Covers}
 use Rattle.sieve.specs.Sieve.{state}
-
--- of the rows those stay marked that pass the test
-unfoldable pub Sifted : List ℕ → ℕ → List Bool → List Bool → Type 0
-Sifted t d entry exit = (y : ℕ) → y < rows t → getD exit y false ≡ (getD entry y false && passes t (testOf d) y)
-
--- of the rows those stay marked that the other set has too
-unfoldable pub Met : List ℕ → List Bool → List Bool → List Bool → Type 0
-Met t others entry exit = (y : ℕ) → y < rows t → getD exit y false ≡ (getD entry y false && getD others y false)
-
--- the rows that the other set has are marked too
-unfoldable pub Joined : List ℕ → List Bool → List Bool → List Bool → Type 0
-Joined t others entry exit = (y : ℕ) → y < rows t → getD exit y false ≡ (getD entry y false || getD others y false)
 
 -- of the rows those stay marked at which all predicates of a chain hold
 unfoldable pub Narrowed : List ℕ → List Float → Tree → List Bool → List Bool → Type 0

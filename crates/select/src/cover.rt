@@ -1,6 +1,6 @@
 // Which rows a chain of steps may come by from a set of rows, by its axes and tests alone, whatever its predicates say.
-use crate::marks::join;
-use crate::marks::sift;
+use marks::join;
+use marks::sift;
 use path::first_link;
 use path::index_or_axis;
 use path::test_at;

@@ -2,25 +2,18 @@
 // same over whole sets, where no position is counted: a step, a chain of predicates, a truth, and a chain of steps backwards.
 // Each call goes to a lower row, but for those within one step, one truth and one path; so links, with room for three calls at
 // the same link, bound the depth. Large arrays stand where no chain repeats a frame: once for each path inside a path.
-use crate::MOST_ROWS;
-use crate::candidates::list_candidates;
 use crate::cover::cover;
-use crate::marks::add_marks;
-use crate::marks::copy_marks;
-use crate::marks::count_marks;
-use crate::marks::meet;
-use crate::marks::sift;
-use crate::marks::start_mark;
-use crate::values::apply;
-use crate::values::float_of;
-use crate::values::is_decided;
-use crate::values::keeps;
-use crate::values::takes_first;
-use crate::values::takes_second;
-use crate::values::truth_of;
 use basics::below;
 use basics::wide;
+use candidates::list_candidates;
+use marks::add_marks;
+use marks::copy_marks;
+use marks::count_marks;
+use marks::meet;
+use marks::sift;
+use marks::start_mark;
 use meaning::Context;
+use meaning::MOST_ROWS;
 use meaning::Value;
 use path::counting::counting;
 use path::counting::counts;
@@ -40,6 +33,13 @@ use sieve::retain;
 use sieve::settle;
 use sieve::settle_all;
 use table::row_count;
+use values::apply;
+use values::float_of;
+use values::is_decided;
+use values::keeps;
+use values::takes_first;
+use values::takes_second;
+use values::truth_of;
 ghost use mathlib.Core.Path.{_≡_};
 ghost use mathlib.Core.Bool.{true, false, _||_, cond};
 ghost use Prim.Native.Nat.{ℕ, _+_, _-_, _*_, _<_, _≤_};

@@ -1,9 +1,6 @@
 // The evaluator: what a path selects from a node of a table (document 01, "Meaning" and "Numbers given back").
-mod candidates;
 mod cover;
 mod cycle;
-mod marks;
-mod values;
 
 use basics::given;
 use basics::wide;
@@ -11,6 +8,7 @@ use cycle::select;
 use marks::count_marks;
 use marks::list_marks;
 use meaning::Answer;
+use meaning::MOST_ROWS;
 use path::check::check_path;
 use table::check::check_table;
 use table::row_count;
@@ -18,9 +16,6 @@ ghost use mathlib.Core.Path.{_≡_};
 ghost use Prim.Native.Nat.{_<_};
 ghost use lib.ListN.{length};
 ghost use Rattle.meaning.specs.Answers.{tableAnswer, pathAnswer, evaluation, evaluated};
-
-// The most rows of a table: the length of every buffer.
-const MOST_ROWS: usize = 4096;
 
 // Evaluation of a path and on a table that are accepted: 7 for a start node that is none, 8 where out has no room, 0 with what is
 // selected at the front of out.

@@ -1,1 +1,1 @@
-mod Climb
+mod Next

@@ -1,25 +1,40 @@
 // Is a node on an axis of another, and does it pass a test: each equal to its definition (document 01, "Meaning").
-use crate::end_at;
 use crate::kind_at;
 use crate::name_at;
-use crate::parent_at;
 use basics::at_most;
 use basics::below;
 use basics::both;
 use basics::either;
+use basics::entry;
 use basics::same;
 use basics::wide;
 ghost use mathlib.Core.Path.{_≡_};
 ghost use Prim.Native.Nat.{_-_, _<_};
+ghost use Rattle.meaning.specs.Table.{rows, parentOf, end};
 ghost use Rattle.meaning.specs.Axis.{inside, on, onAxis, axisOf, passes, testOf, isReverse};
 ghost use Rattle.meaning.specs.Axis.Axis.{child, following, following-sibling};
+
+// The parent of any number, and the end of its subtree: of no row both read 0 for what is stored.
+fn any_parent(table: &[u32], i: usize) -> usize
+    requires { ⌜ i < 4294967296 ⌝ }
+    ensures { λ r. ⌜ r ≡ parentOf (now (table .entry)) i ⌝ }
+{
+    entry(table, 4 * i + 2)
+}
+
+fn any_end(table: &[u32], i: usize) -> usize
+    requires { ⌜ i < 4294967296 ⌝ }
+    ensures { λ r. ⌜ r ≡ end (now (table .entry)) i ⌝ }
+{
+    i + entry(table, 4 * i + 3)
+}
 
 // Is y a child of x? Row 0 is nobody's child.
 fn is_child(table: &[u32], x: usize, y: usize) -> bool
     requires { ⌜ y < 4294967296 ⌝ }
     ensures { λ r. ⌜ r ≡ on (now (table .entry)) child x y ⌝ }
 {
-    both(below(0, y), same(parent_at(table, y), x))
+    both(below(0, y), same(any_parent(table, y), x))
 }
 
 // Is y a descendant of x?
@@ -27,7 +42,7 @@ fn is_inside(table: &[u32], x: usize, y: usize) -> bool
     requires { ⌜ x < 4294967296 ⌝ }
     ensures { λ r. ⌜ r ≡ inside (now (table .entry)) x y ⌝ }
 {
-    both(below(x, y), at_most(y, end_at(table, x)))
+    both(below(x, y), at_most(y, any_end(table, x)))
 }
 
 // Is y later than x and not a descendant of it?
@@ -44,7 +59,7 @@ fn is_later_sibling(table: &[u32], x: usize, y: usize) -> bool
     ensures { λ r. ⌜ r ≡ on (now (table .entry)) following-sibling x y ⌝ }
 {
     let later = both(below(0, x), below(x, y));
-    both(later, same(parent_at(table, x), parent_at(table, y)))
+    both(later, same(any_parent(table, x), any_parent(table, y)))
 }
 
 // Is y on the axis of x? A number above 10 reads as axis 0.
@@ -77,7 +92,7 @@ pub fn on_axis(table: &[u32], axis: u32, x: u32, y: u32) -> bool
 
 // Does node y pass the test with this number?
 pub fn passes_test(table: &[u32], test: usize, y: usize) -> bool
-    requires { ⌜ y < 4294967296 ⌝ }
+    requires { ⌜ y < rows (now table) ⌝ }
     ensures { λ r. ⌜ r ≡ passes (now (table .entry)) (testOf test) y ⌝ }
 {
     match test {
@@ -92,7 +107,7 @@ pub fn passes_test(table: &[u32], test: usize, y: usize) -> bool
 
 // Is node y an element whose name the test asks for?
 fn is_named(table: &[u32], test: usize, y: usize) -> bool
-    requires { ⌜ y < 4294967296 ⌝ }
+    requires { ⌜ y < rows (now table) ⌝ }
     ensures { λ r. ⌜ r ≡ passes (now (table .entry)) (Rattle.meaning.specs.Axis.Test.element (test - 16)) y ⌝ }
 {
     both(

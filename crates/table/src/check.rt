@@ -1,4 +1,4 @@
-// The table checker (document 01, "The node table" and "Numbers given back"): time linear in the rows, sums in 64 bits.
+// The table checker (document 01, "The node table" and "Numbers given back"): one pass over the rows, sums in 64 bits.
 use crate::end_at;
 use crate::kind_at;
 use crate::name_at;
@@ -11,13 +11,14 @@ use basics::either;
 use basics::given;
 use basics::same;
 use meaning::Answer;
+use meaning::MOST_ROWS;
 ghost use mathlib.Core.Path.{_≡_};
 ghost use mathlib.Core.Bool.{true};
-ghost use Prim.Native.Nat.{_<_, _≤_};
+ghost use Prim.Native.Nat.{_+_, _<_, _≤_};
 ghost use Rattle.meaning.specs.Lists.{lowest};
-ghost use Rattle.meaning.specs.Table.{rows, mostRows, lengthAllowed, goodRoot, goodName, goodSize, nearest, goodRow, broken};
+ghost use Rattle.meaning.specs.Table.{rows, mostRows, lengthAllowed, goodRoot, goodName, goodRow, broken};
 ghost use Rattle.meaning.specs.Answers.{tableAnswer};
-ghost use Rattle.table.specs.Sound.{Reached};
+ghost use Rattle.table.specs.Next.{goodNumbers, Next, Looked};
 
 // 1 to 4,096 rows, and a multiple of 4.
 fn length_allowed(table: &[u32]) -> bool
@@ -25,7 +26,7 @@ fn length_allowed(table: &[u32]) -> bool
 {
     let n = row_count(table);
     let some_rows = both(same(table.len() % 4, 0), at_most(1, n));
-    both(some_rows, at_most(n, 4096))
+    both(some_rows, at_most(n, MOST_ROWS))
 }
 
 // Row 0: kind 0, name 0, parent 0, size rows minus 1.
@@ -49,35 +50,42 @@ fn good_name(kind: usize, name: usize) -> bool
     }
 }
 
-// The largest row below i that reaches i. The climb starts at i - 1 and goes by parents: whoever lies between a row
-// and its parent ends before that row, so it does not reach i either.
-fn nearest_below(table: &[u32], i: usize) -> usize
-    requires { ⌜ Reached (now table) i ⌝ }
-    ensures { λ r. ⌜ nearest (now (table .entry)) i r ≡ true ⌝ }
+// A row's own numbers: a kind from 1 to 4, a name and a size as it has them; size is 0 for kinds 2, 3, 4.
+fn good_numbers(kind: usize, name: usize, size: usize) -> bool
+    ensures { λ r. ⌜ r ≡ goodNumbers kind name size ⌝ }
 {
-    let mut j = i - 1;
-    while end_at(table, j) < i {
-        j = parent_at(table, j);
-    }
-    j
+    let known = both(at_most(1, kind), at_most(kind, 4));
+    let named = both(known, good_name(kind, name));
+    both(named, either(same(kind, 1), same(size, 0)))
 }
 
-// Is row i, which is not the root, as the rules have it? Only asked where the rows below it are.
-fn good_row(table: &[u32], i: usize) -> bool
-    requires { ⌜ Reached (now table) i ⌝ }
+// Is row i, which is not the root, as the rules have it? next has for each lower row where its next child must stand: a row is
+// well placed exactly if it stands there and ends inside its parent.
+fn good_row(table: &[u32], i: usize, next: &[u16]) -> bool
+    requires { ⌜ Looked (now table) i (now next) ⌝ }
     ensures { λ r. ⌜ r ≡ goodRow (now (table .entry)) i ⌝ }
 {
-    let kind = kind_at(table, i);
-    let known = both(at_most(1, kind), at_most(kind, 4));
-    let named = both(known, good_name(kind, name_at(table, i)));
-    let sized = either(same(kind, 1), same(size_at(table, i), 0));
     let parent = parent_at(table, i);
-    let near = same(parent, nearest_below(table, i));
-    let placed = both(near, at_most(end_at(table, i), end_at(table, parent)));
-    both(both(named, sized), placed)
+    if i <= parent {
+        return false;
+    }
+    let sound = good_numbers(kind_at(table, i), name_at(table, i), size_at(table, i));
+    let inside = at_most(end_at(table, i), end_at(table, parent));
+    let stands = same(next[parent] as usize, i);
+    both(sound, both(stands, inside))
 }
 
-// The lowest broken row, or the row count where there is none.
+// Row i is sound: its own first child must stand right behind it, and its parent's next one behind its subtree.
+fn pass_row(table: &[u32], i: usize, next: &mut [u16])
+    requires { ⌜ Looked (now table) i (now next) × (goodRow (now table) i ≡ true) ⌝ }
+    ensures { λ _. ⌜ Next (now (table .entry)) (i + 1) (now (next .exit)) ⌝ }
+{
+    let parent = parent_at(table, i);
+    next[i] = (i + 1) as u16;
+    next[parent] = (end_at(table, i) + 1) as u16;
+}
+
+// The lowest broken row, or the row count where there is none. The root's first child must stand at row 1.
 fn lowest_broken_row(table: &[u32]) -> usize
     requires { ⌜ (0 < rows (now table)) × (rows (now table) ≤ mostRows) ⌝ }
     ensures { λ r. ⌜ r ≡ lowest (broken (now (table .entry))) (rows (now (table .entry))) ⌝ }
@@ -86,11 +94,13 @@ fn lowest_broken_row(table: &[u32]) -> usize
         return 0;
     }
     let n = row_count(table);
+    let mut next = [1u16; MOST_ROWS];
     let mut i = 1;
     while i < n {
-        if !good_row(table, i) {
+        if !good_row(table, i, &next) {
             return i;
         }
+        pass_row(table, i, &mut next);
         i += 1;
     }
     n

@@ -2,7 +2,7 @@
 -- Assumes nothing.
 use borrow.Author.Tests.{not-true, not-false}
 use mathlib.Core.Path.{_∙_, sym}
-use Rattle.meaning.proofs.View.{viewable-rises, part-refused, part-none, part-some}
+use Rattle.meaning.proofs.View.{viewable-rises, viewable-row, part-refused, part-none, part-some}
 use borrow.Author.Needs.{needs}
 use Rattle.view.proofs.ends_of.Statement.{statement}
 use Rattle.view.proofs.ends_of.Tie as tie
@@ -20,7 +20,7 @@ lower-bound-requires : tie.Need-lower-bound-requires
 lower-bound-requires c κs = viewable-rises _ _ _ (sym (c .before .is-viewable .ensures) ∙ not-false _ (c .if1 .left))
 
 end-at-requires : tie.Need-end-at-requires
-end-at-requires c κs = search needs
+end-at-requires c κs = (viewable-row _ _ _ (sym (c .before .before .is-viewable .ensures) ∙ not-false _ (c .before .if1 .left)), search needs)
 
 add-lower-bound : tie.Need-add-lower-bound
 add-lower-bound c = search needs

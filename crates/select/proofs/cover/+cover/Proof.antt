@@ -14,8 +14,8 @@ use Rattle.path.proofs.first_link.Reads as first-link-reads
 use Rattle.path.proofs.index_or_axis.Reads as index-or-axis-reads
 use Rattle.path.proofs.test_at.Reads as test-at-reads
 use Rattle.reach.proofs.reach.Reads as reach-reads
-use Rattle.select.proofs.marks.join.Reads as join-reads
-use Rattle.select.proofs.marks.sift.Reads as sift-reads
+use Rattle.marks.proofs.join.Reads as join-reads
+use Rattle.marks.proofs.sift.Reads as sift-reads
 use Rattle.select.proofs.cover.+cover.{statement}
 use Rattle.select.proofs.cover.+cover.Tie.{close}
 

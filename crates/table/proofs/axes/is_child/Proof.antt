@@ -8,8 +8,8 @@ use Rattle.table.proofs.axes.is_child.Tie as tie
 below-requires : tie.Need-below-requires
 below-requires c κs = search needs
 
-parent-at-requires : tie.Need-parent-at-requires
-parent-at-requires c κs = search needs
+any-parent-requires : tie.Need-any-parent-requires
+any-parent-requires c κs = search needs
 
 same-requires : tie.Need-same-requires
 same-requires c κs = search needs
@@ -19,8 +19,8 @@ both-requires c κs = search needs
 
 returns : tie.Need-returns
 unfolding A.on
-returns c = rw (c .both .ensures, c .before .same .ensures, c .before .before .parent-at .ensures .0, c .before .before .before .below .ensures)
+returns c = rw (c .both .ensures, c .before .same .ensures, c .before .before .any-parent .ensures, c .before .before .before .below .ensures)
 
 pub is-child-spec : {M : Type 1} → statement M
 is-child-spec =
-    tie.close (tie.spec below-requires parent-at-requires same-requires both-requires returns)
+    tie.close (tie.spec below-requires any-parent-requires same-requires both-requires returns)

@@ -14,11 +14,11 @@ below-requires-2 c κs = search needs
 both-requires : tie.Need-both-requires
 both-requires c κs = search needs
 
-parent-at-requires : tie.Need-parent-at-requires
-parent-at-requires c κs = search needs
+any-parent-requires : tie.Need-any-parent-requires
+any-parent-requires c κs = search needs
 
-parent-at-requires-2 : tie.Need-parent-at-requires-2
-parent-at-requires-2 c κs = search needs
+any-parent-requires-2 : tie.Need-any-parent-requires-2
+any-parent-requires-2 c κs = search needs
 
 same-requires : tie.Need-same-requires
 same-requires c κs = search needs
@@ -28,7 +28,7 @@ both-requires-2 c κs = search needs
 
 returns : tie.Need-returns
 unfolding A.on
-returns c = rw (c .both2 .ensures, c .before .same .ensures, c .before .before .parent-at2 .ensures .0, c .before .before .before .parent-at .ensures .0, c .before .before .before .before .both .ensures, c .before .before .before .before .before .below2 .ensures, c .before .before .before .before .before .before .below .ensures)
+returns c = rw (c .both2 .ensures, c .before .same .ensures, c .before .before .any-parent2 .ensures, c .before .before .before .any-parent .ensures, c .before .before .before .before .both .ensures, c .before .before .before .before .before .below2 .ensures, c .before .before .before .before .before .before .below .ensures)
 
 pub is-later-sibling-spec : {M : Type 1} → statement M
 is-later-sibling-spec =
@@ -37,8 +37,8 @@ is-later-sibling-spec =
     below-requires
     below-requires-2
     both-requires
-    parent-at-requires
-    parent-at-requires-2
+    any-parent-requires
+    any-parent-requires-2
     same-requires
     both-requires-2
     returns)

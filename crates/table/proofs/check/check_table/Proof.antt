@@ -4,7 +4,7 @@ use borrow.Author.Needs.{needs}
 use native.Mathlib.Omega.{arith}
 use borrow.Author.Tests.{not-true, not-false}
 use mathlib.Core.Path.{_∙_, sym}
-use Rattle.table.proofs.Climb.{allowed-rows}
+use Rattle.table.proofs.Next.{allowed-rows}
 use Rattle.meaning.proofs.Checks.{table-length, table-row, table-whole}
 use Rattle.table.proofs.check.check_table.Statement.{statement}
 use Rattle.table.proofs.check.check_table.Tie as tie
