@@ -1,7 +1,9 @@
 // A set of nodes as marks: mark y says whether node y is in the set. Lists of nodes are the marked rows, ascending.
 use basics::both;
 use basics::either;
+use basics::given;
 use basics::wide;
+use meaning::Answer;
 use table::axes::passes_test;
 use table::row_count;
 ghost use mathlib.Core.Path.{_≡_};
@@ -13,6 +15,7 @@ ghost use Rattle.meaning.specs.Lists.{has};
 ghost use Rattle.meaning.specs.Table.{rows, mostRows};
 ghost use Rattle.meaning.specs.Rows.{opOf};
 ghost use Rattle.meaning.specs.Meaning.{startOf};
+ghost use Rattle.meaning.specs.Answers.{handed, output};
 ghost use Rattle.meaning.proofs.Marks.{listed};
 ghost use Rattle.marks.specs.Sets.{Sifted, Met, Joined};
 
@@ -114,7 +117,7 @@ pub fn count_marks(table: &[u32], marks: &[bool]) -> usize
 }
 
 // Writes the marked rows, ascending, at the front of a list that has room for them; the rest stays.
-pub fn list_marks(table: &[u32], marks: &[bool], list: &mut [u32])
+fn list_marks(table: &[u32], marks: &[bool], list: &mut [u32])
     requires { ⌜ (rows (now table) ≤ mostRows) × (rows (now table) ≤ length (now marks)) × (length (listed (now table) (now marks)) ≤ length (now list)) ⌝ }
     ensures { λ _. ⌜ now (list .exit) ≡ listed (now (table .entry)) (now (marks .entry)) ++ drop (length (listed (now (table .entry)) (now (marks .entry)))) (now (list .entry)) ⌝ }
 {
@@ -129,4 +132,17 @@ pub fn list_marks(table: &[u32], marks: &[bool], list: &mut [u32])
         }
         y += 1;
     }
+}
+
+// Gives the marked rows: 8 where the output has no room for them, else 0 with them at its front; the place is how many they are.
+pub fn give_marks(table: &[u32], marks: &[bool], out: &mut [u32]) -> Answer
+    requires { ⌜ (rows (now table) ≤ mostRows) × (rows (now table) ≤ length (now marks)) ⌝ }
+    ensures { λ r. ⌜ (r ≡ handed (listed (now (table .entry)) (now (marks .entry))) (length (now (out .entry)))) × (now (out .exit) ≡ output r (listed (now (table .entry)) (now (marks .entry))) (now (out .entry))) ⌝ }
+{
+    let n = count_marks(table, marks);
+    if out.len() < n {
+        return given(8, n);
+    }
+    list_marks(table, marks, out);
+    given(0, n)
 }

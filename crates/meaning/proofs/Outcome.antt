@@ -14,7 +14,7 @@ use Rattle.meaning.specs.Table.{rows, mostRows, lengthAllowed, broken, a
 use Rattle.meaning.specs.Rows.{rowsOf, mostPathRows}
 use Rattle.meaning.specs.Tree.{tree}
 use Rattle.meaning.specs.Meaning.{select}
-use Rattle.meaning.specs.Answers.{answer, check, tableAnswer, pathAnswer, selected, evaluation, output, evaluated}
+use Rattle.meaning.specs.Answers.{answer, check, tableAnswer, pathAnswer, selected, handed, evaluation, output, evaluated}
 use Rattle.meaning.specs.declared.Answer.{Answer}
 use Rattle.meaning.proofs.Bools.{and-l, and-r, truly}
 use Rattle.meaning.proofs.Checks.{table-passes, table-stops, table-accepted, path-passes, path-stops, most-rows}
@@ -49,9 +49,7 @@ module _ (t p : List ℕ) (literals : List Float) (start : ℕ) (out : List ℕ)
     path-refused a e f = refused a (e ∙ sym (table-passes t table-ok _ ∙ path-stops p literals (λ z. f (ap (λ (a : Answer). a .number) e ∙ z)) _)) f
 
     module _ (path-ok : pathAnswer p literals .number ≡ 0) where
-      accepted-on : (a : Answer) → a ≡ check (leb (rows t) start) 7 start
-          (check (ltb (length out) (length (selected t p literals start))) 8 (length (selected t p literals start))
-          (answer 0 (length (selected t p literals start)))) → a ≡ evaluation t p literals start (length out)
+      accepted-on : (a : Answer) → a ≡ check (leb (rows t) start) 7 start (handed (selected t p literals start) (length out)) → a ≡ evaluation t p literals start (length out)
       unfolding evaluation
       accepted-on a e = e ∙ sym (table-passes t table-ok _ ∙ path-passes p literals path-ok _)
 
@@ -59,17 +57,10 @@ module _ (t p : List ℕ) (literals : List Float) (start : ℕ) (out : List ℕ)
       pub start-refused : (a : Answer) → rows t ≤ start → a ≡ answer 7 start → Outcome a out
       start-refused a h e = refused a (accepted-on a (rw (le-leb (rows t) start h) e)) (λ z. absurd (omega (arith, ap (λ (a : Answer). a .number) e)))
 
-      module _ (below : start < rows t) (l : ℕ) (is-l : l ≡ rowsOf p) (s : List ℕ) (is-s : s ≡ select t literals (tree p l) start) (n : ℕ) (is-n : n ≡ length s) (a : Answer) where
-        all-selected : s ≡ selected t p literals start
-        all-selected = is-s ∙ ap (λ (l : ℕ). select t literals (tree p l) start) is-l
-
-        -- 8: more are selected than the output holds
-        pub room-refused : length out < n → a ≡ answer 8 n → Outcome a out
-        room-refused h e = refused a (accepted-on a (rw (lt-leb (rows t) start below, ← all-selected, ← is-n, lt-ltb (length out) n h) e)) (λ z. absurd (omega (arith, ap (λ (a : Answer). a .number) e)))
-
-        -- 0: what is selected stands at the front, and the rest is as it was
-        pub all-listed : (out' : List ℕ) → n ≤ length out → a ≡ answer 0 n → out' ≡ s ++ drop (length s) out → Outcome a out'
-        unfolding evaluated output
-        all-listed out' h e w =
-            let r : a ≡ evaluation t p literals start (length out) = accepted-on a (rw (lt-leb (rows t) start below, ← all-selected, ← is-n, le-ltb (length out) n h) e) in
-            (r, rw (← r, e, ← all-selected) w)
+      -- 8 where more are selected than the output holds; 0 with what is selected at the front, and the rest as it was
+      pub all-handed : start < rows t → (l : ℕ) → l ≡ rowsOf p → (s : List ℕ) → s ≡ select t literals (tree p l) start → (a : Answer) (out' : List ℕ) → a ≡ handed s (length out) → out' ≡ output a s out → Outcome a out'
+      unfolding evaluated
+      all-handed below l is-l s is-s a out' e w =
+          let all : s ≡ selected t p literals start = is-s ∙ ap (λ (l : ℕ). select t literals (tree p l) start) is-l in
+          let r : a ≡ evaluation t p literals start (length out) = accepted-on a (rw (lt-leb (rows t) start below, ← all) e) in
+          (r, rw (← r, ← all) w)

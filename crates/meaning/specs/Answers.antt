@@ -54,14 +54,17 @@ pathAnswer p literals = pathChecks p literals (answer 0 (rowsOf p))
 abbrev pub selected : List ℕ → List ℕ → List Float → ℕ → List ℕ
 selected t p literals start = select t literals (pathTree p) start
 
--- evaluation. 7: start node not below the row count; 8: more selected than the output holds
+-- 8: more selected than the output holds; 0: all of it is written
+abbrev pub handed : List ℕ → ℕ → Answer
+handed nodes room = check (ltb room (length nodes)) 8 (length nodes) (answer 0 (length nodes))
+
+-- evaluation. 7: start node not below the row count; then 8 or 0
 unfoldable pub evaluation : List ℕ → List ℕ → List Float → ℕ → ℕ → Answer
 evaluation t p literals start room =
     tableChecks t
     (pathChecks p literals
     (check (leb (rows t) start) 7 start
-    (check (ltb room (length (selected t p literals start))) 8 (length (selected t p literals start))
-    (answer 0 (length (selected t p literals start))))))
+    (handed (selected t p literals start) room)))
 
 -- on 0 what was written stands at the front and the rest is unchanged; every other number leaves the output unchanged
 unfoldable pub output : Answer → List ℕ → List ℕ → List ℕ

@@ -2,4 +2,3 @@ mod RowReads
 mod FieldKinds
 mod Passes
 mod Literals
-mod Heavy

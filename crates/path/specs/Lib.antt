@@ -1,3 +1,2 @@
-pub mod Heavy
 pub mod Kinds
 pub mod Passes

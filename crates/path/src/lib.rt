@@ -110,5 +110,4 @@ pub fn inverse_axis(axis: usize) -> usize
 }
 
 pub mod check;
-pub mod counting;
 pub mod fields;

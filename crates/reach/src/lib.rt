@@ -6,6 +6,7 @@ use basics::below;
 use basics::both;
 use basics::either;
 use meaning::MOST_ROWS;
+use path::inverse_axis;
 use table::end_at;
 use table::parent_at;
 use table::row_count;
@@ -18,6 +19,7 @@ ghost use Rattle.meaning.specs.Lists.{upTo, some};
 ghost use Rattle.meaning.specs.Table.{mostRows, rows, end};
 ghost use Rattle.meaning.specs.Axis.{axisOf};
 ghost use Rattle.meaning.specs.Axis.Axis.{child, parent, descendant, ancestor, descendant-or-self, ancestor-or-self, following, preceding, following-sibling, preceding-sibling};
+ghost use Rattle.meaning.specs.Turning.{inverseOf};
 ghost use Rattle.reach.specs.Reach.{Hits, Room, beyond};
 
 // A number that no subtree's end reaches.
@@ -207,4 +209,13 @@ pub fn reach(table: &[u32], axis: usize, marks: &mut [bool])
         10 => mark_earlier_siblings(table, marks),
         _ => {}
     }
+}
+
+// Marks the rows that have on the axis with this number some row that was marked, and no others: those on its inverse axis.
+pub fn reach_back(table: &[u32], axis: usize, marks: &mut [bool])
+    requires { ⌜ Room (now table) (now marks) ⌝ }
+    ensures { λ _. ⌜ Hits (now (table .entry)) (axisOf (inverseOf axis)) (now (marks .entry)) (now (marks .exit)) ⌝ }
+{
+    let inverse = inverse_axis(axis);
+    reach(table, inverse, marks);
 }

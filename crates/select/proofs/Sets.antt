@@ -38,10 +38,10 @@ module _ (t : List ℕ) (literals : List Float) where
   sifted-narrowed d e entry mid exit s n y l = n y l ∙ rw (s y l) (and-assoc (getD entry y false) (passes t (testOf d) y) (ok t literals e y))
 
   -- one step back: what is near, the test, the predicates, the inverse axis
-  pub led-by : (c r d : ℕ) (e : Tree) (near entry met mid next exit : List Bool) → r ≡ inverseOf c → Met t near entry met → Sifted t d met mid → Narrowed t literals e mid next → Hits t (axisOf r) next exit → LedBy t literals near e c d entry exit
+  pub led-by : (c d : ℕ) (e : Tree) (near entry met mid next exit : List Bool) → Met t near entry met → Sifted t d met mid → Narrowed t literals e mid next → Hits t (axisOf (inverseOf c)) next exit → LedBy t literals near e c d entry exit
   unfolding LedBy Met Hits hit
-  led-by c r d e near entry met mid next exit q m s n h y l =
-      h y l ∙ rw q (before-by t literals c d e (λ z. getD entry z false && getD near z false) (λ z. getD next z false) (λ z k. sifted-narrowed d e met mid next s n z k ∙ rw (m z k)) y)
+  led-by c d e near entry met mid next exit m s n h y l =
+      h y l ∙ before-by t literals c d e (λ z. getD entry z false && getD near z false) (λ z. getD next z false) (λ z k. sifted-narrowed d e met mid next s n z k ∙ rw (m z k)) y
 
   -- one step forward that does not count: the axis, the test, the predicates
   pub strode : (p : List ℕ) (b c d : ℕ) (entry reached mid exit : List Bool) → counting (tree p b) ≡ false → Hits t (axisOf c) entry reached → Sifted t d reached mid → Narrowed t literals (tree p b) mid exit

@@ -6,6 +6,10 @@ use crate::cover::cover;
 use basics::below;
 use basics::wide;
 use candidates::list_candidates;
+use counting::counting;
+use counting::counts;
+use counting::is_heavy;
+use counting::is_over_path;
 use marks::add_marks;
 use marks::copy_marks;
 use marks::count_marks;
@@ -15,19 +19,16 @@ use marks::start_mark;
 use meaning::Context;
 use meaning::MOST_ROWS;
 use meaning::Value;
-use path::counting::counting;
-use path::counting::counts;
-use path::counting::is_heavy;
-use path::counting::is_over_path;
 use path::field_at;
 use path::first_link;
 use path::index_or_axis;
-use path::inverse_axis;
 use path::second_link;
 use path::test_at;
 use reach::reach;
+use reach::reach_back;
 use sieve::choose;
 use sieve::exchange;
+use sieve::put_out;
 use sieve::recast;
 use sieve::retain;
 use sieve::settle;
@@ -274,8 +275,7 @@ fn step_back(
     meet(table, near, marks);
     sift(table, test, marks);
     narrow(table, path, literals, link, marks);
-    let inverse = inverse_axis(axis);
-    reach(table, inverse, marks);
+    reach_back(table, axis, marks);
 }
 
 // Takes the chain of steps that a link names backwards, the last of them first: from the marked nodes to those from which it
@@ -401,7 +401,7 @@ fn thin(table: &[u32], path: &[u32], literals: &[f64], link: usize, states: &mut
     let before = first_link(path, row);
     thin(table, path, literals, before, states);
     let held = second_link(path, row);
-    recast(states, row_count(table), 3, 0);
+    put_out(states, row_count(table));
     decide(table, path, literals, held, 2, states);
 }
 

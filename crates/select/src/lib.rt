@@ -5,8 +5,7 @@ mod cycle;
 use basics::given;
 use basics::wide;
 use cycle::select;
-use marks::count_marks;
-use marks::list_marks;
+use marks::give_marks;
 use meaning::Answer;
 use meaning::MOST_ROWS;
 use path::check::check_path;
@@ -41,12 +40,7 @@ fn evaluate_accepted(
         start,
         &mut marks,
     );
-    let n = count_marks(table, &marks);
-    if out.len() < n {
-        return given(8, n);
-    }
-    list_marks(table, &marks, out);
-    given(0, n)
+    give_marks(table, &marks, out)
 }
 
 // Evaluates a path on a table from a start node, for any inputs. The table is checked first, then the path, then the start node, then

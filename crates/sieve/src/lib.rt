@@ -28,6 +28,14 @@ pub fn recast(states: &mut [u16], n: usize, from: u16, to: u16)
     }
 }
 
+// Puts out of the question what has failed at the first level: 3 becomes 0.
+pub fn put_out(states: &mut [u16], n: usize)
+    requires { ⌜ n ≤ length (now states) ⌝ }
+    ensures { λ _. ⌜ Recast n 3 0 (now (states .entry)) (now (states .exit)) ⌝ }
+{
+    recast(states, n, 3, 0);
+}
+
 // Exchanges active and active + 1 among the first n states.
 pub fn exchange(states: &mut [u16], n: usize, active: u16)
     requires { ⌜ n ≤ length (now states) ⌝ ∗ ⌜ active < 65535 ⌝ }

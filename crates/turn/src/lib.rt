@@ -3,9 +3,9 @@
 use basics::below;
 use basics::either;
 use basics::given;
+use counting::counting;
 use meaning::Answer;
 use path::check::check_path;
-use path::counting::counting;
 use path::field_at;
 use path::first_link;
 use path::index_or_axis;

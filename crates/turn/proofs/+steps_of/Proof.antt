@@ -8,7 +8,7 @@ use borrow.Fn.PlainCycle.{Measures, is, falls, and}
 use Rattle.turn.proofs.steps_of.Reads as steps-of
 use Rattle.turn.proofs.steps_of.Kinds as steps-of-kinds
 use Rattle.turn.proofs.+steps_of.Lts-steps_of as steps-of-lts
-use Rattle.path.proofs.counting.counting.Reads as counting-reads
+use Rattle.counting.proofs.counting.Reads as counting-reads
 use Rattle.path.proofs.first_link.Reads as first-link-reads
 use Rattle.path.proofs.second_link.Reads as second-link-reads
 use Rattle.turn.proofs.first_of.Reads as first-of-reads

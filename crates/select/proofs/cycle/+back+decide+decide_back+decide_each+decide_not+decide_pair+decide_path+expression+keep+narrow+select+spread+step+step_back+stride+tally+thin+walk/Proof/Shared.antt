@@ -60,16 +60,16 @@ use Rattle.select.proofs.cycle.walk.Kinds as walk-kinds
 use Rattle.select.proofs.cycle.+back+decide+decide_back+decide_each+decide_not+decide_pair+decide_path+expression+keep+narrow+select+spread+step+step_back+stride+tally+thin+walk.Lts-walk as walk-lts
 use Rattle.basics.proofs.below.Reads as below-reads
 use Rattle.basics.proofs.wide.Reads as wide-reads
-use Rattle.path.proofs.counting.counting.Reads as counting-reads
-use Rattle.path.proofs.counting.counts.Reads as counts-reads
-use Rattle.path.proofs.counting.is_heavy.Reads as is-heavy-reads
+use Rattle.counting.proofs.counting.Reads as counting-reads
+use Rattle.counting.proofs.counts.Reads as counts-reads
+use Rattle.counting.proofs.is_heavy.Reads as is-heavy-reads
 use Rattle.path.proofs.field_at.Reads as field-at-reads
 use Rattle.path.proofs.first_link.Reads as first-link-reads
 use Rattle.path.proofs.index_or_axis.Reads as index-or-axis-reads
-use Rattle.path.proofs.inverse_axis.Reads as inverse-axis-reads
 use Rattle.path.proofs.second_link.Reads as second-link-reads
 use Rattle.path.proofs.test_at.Reads as test-at-reads
 use Rattle.reach.proofs.reach.Reads as reach-reads
+use Rattle.reach.proofs.reach_back.Reads as reach-back-reads
 use Rattle.candidates.proofs.list_candidates.Reads as list-candidates-reads
 use Rattle.select.proofs.cover.cover.Reads as cover-reads
 use Rattle.marks.proofs.add_marks.Reads as add-marks-reads
@@ -80,7 +80,7 @@ use Rattle.marks.proofs.sift.Reads as sift-reads
 use Rattle.marks.proofs.start_mark.Reads as start-mark-reads
 use Rattle.values.proofs.apply.Reads as apply-reads
 use Rattle.values.proofs.float_of.Reads as float-of-reads
-use Rattle.path.proofs.counting.is_over_path.Reads as is-over-path-reads
+use Rattle.counting.proofs.is_over_path.Reads as is-over-path-reads
 use Rattle.values.proofs.is_decided.Reads as is-decided-reads
 use Rattle.values.proofs.keeps.Reads as keeps-reads
 use Rattle.values.proofs.takes_first.Reads as takes-first-reads
@@ -88,6 +88,7 @@ use Rattle.values.proofs.takes_second.Reads as takes-second-reads
 use Rattle.values.proofs.truth_of.Reads as truth-of-reads
 use Rattle.sieve.proofs.choose.Reads as choose-reads
 use Rattle.sieve.proofs.exchange.Reads as exchange-reads
+use Rattle.sieve.proofs.put_out.Reads as put-out-reads
 use Rattle.sieve.proofs.recast.Reads as recast-reads
 use Rattle.sieve.proofs.retain.Reads as retain-reads
 use Rattle.sieve.proofs.settle.Reads as settle-reads
@@ -475,10 +476,8 @@ step-back-calls t = (
   sift-reads.Learnt,
   narrow-below t,
   narrow.Post,
-  inverse-axis-reads.Asked,
-  inverse-axis-reads.Learnt,
-  reach-reads.Asked,
-  reach-reads.Learnt,
+  reach-back-reads.Asked,
+  reach-back-reads.Learnt,
 )
 
 abbrev pub stride-calls : ℕ → stride-lts.Claims
@@ -509,8 +508,8 @@ thin-calls t = (
   second-link-reads.Learnt,
   row-count-reads.Asked,
   row-count-reads.Learnt,
-  recast-reads.Asked,
-  recast-reads.Learnt,
+  put-out-reads.Asked,
+  put-out-reads.Learnt,
   decide-below t,
   decide.Post,
 )

@@ -23,12 +23,9 @@ module _ (t : ℕ) where
       let start = meet .before .before .before .before .before .before .before in
       (omega (arith, start .pre), (lower _ _ _ (start .pre .1 .0) (omega (arith, start .pre)), omega (arith, start .pre, sift .sift .kept, meet .meet .kept)))
 
-  pub inverse-axis-requires : lts.Need-inverse-axis-requires (calls t) (given t) reads.Post
-  inverse-axis-requires c κs = search needs
-
-  pub reach-requires : lts.Need-reach-requires (calls t) (given t) reads.Post
-  reach-requires c κs =
-      let narrow = c .before .before .before .before in
+  pub reach-back-requires : lts.Need-reach-back-requires (calls t) (given t) reads.Post
+  reach-back-requires c κs =
+      let narrow = c .before .before .before in
       let sift = narrow .before .before .before .before in
       let meet = sift .before .before .before .before in
       let start = meet .before .before .before .before .before .before .before in
@@ -39,9 +36,8 @@ module _ (t : ℕ) where
 
   pub returns : lts.Need-returns (calls t) (given t) reads.Post
   returns c =
-      let reach = c .before .before in
-      let inverse-axis = reach .before .before in
-      let narrow = inverse-axis .before .before .before in
+      let reach-back = c .before .before in
+      let narrow = reach-back .before .before .before .before in
       let sift = narrow .before .before .before .before in
       let meet = sift .before .before .before .before in
-      led-by _ _ _ _ _ _ _ _ _ _ _ _ (inverse-axis .inverse-axis .ensures .0) (meet .meet .ensures) (sift .sift .ensures) (narrow .narrow .ensures) (reach .reach .ensures)
+      led-by _ _ _ _ _ _ _ _ _ _ _ (meet .meet .ensures) (sift .sift .ensures) (narrow .narrow .ensures) (reach-back .reach-back .ensures)

@@ -33,18 +33,18 @@ module _ (t : ℕ) where
   pub row-count-requires : lts.Need-row-count-requires (calls t) (given t) reads.Post
   row-count-requires c κs = search needs
 
-  pub recast-requires : lts.Need-recast-requires (calls t) (given t) reads.Post
-  recast-requires c κs = search needs
+  pub put-out-requires : lts.Need-put-out-requires (calls t) (given t) reads.Post
+  put-out-requires c κs = search needs
 
   pub decide-requires : lts.Need-decide-requires (calls t) (given t) reads.Post
   decide-requires c κs =
-      let recast = c .before .before .before in
-      let row-count = recast .before in
+      let put-out = c .before .before .before in
+      let row-count = put-out .before in
       let second-link = row-count .before .before in
       let thin = second-link .before .before .before in
       let else1 = thin .before .before .before in
       let start = else1 .before .before .before .before .before in
-      (omega (arith, start .pre, second-link .second-link .ensures, else1 .if1 .left), (lower _ _ _ (start .pre .1 .0) (omega (arith, start .pre, second-link .second-link .ensures, else1 .if1 .left)), ((omega (arith, start .pre .1 .0 .low, second-link .second-link .ensures), omega (arith, recast .recast .kept, thin .thin .kept, start .pre)), put-low (start .args .table .now) _ (row-count .row-count .ensures) _ _ (thin .thin .ensures .1) (recast .recast .ensures))))
+      (omega (arith, start .pre, second-link .second-link .ensures, else1 .if1 .left), (lower _ _ _ (start .pre .1 .0) (omega (arith, start .pre, second-link .second-link .ensures, else1 .if1 .left)), ((omega (arith, start .pre .1 .0 .low, second-link .second-link .ensures), omega (arith, put-out .put-out .kept, thin .thin .kept, start .pre)), put-low (start .args .table .now) _ (row-count .row-count .ensures) _ _ (thin .thin .ensures .1) (put-out .put-out .ensures))))
 
   pub same-length : lts.Need-same-length (calls t) (given t) reads.Post
   same-length c = search needs
@@ -52,11 +52,11 @@ module _ (t : ℕ) where
   pub returns-2 : lts.Need-returns-2 (calls t) (given t) reads.Post
   returns-2 c =
       let decide = c .before .before in
-      let recast = decide .before .before .before .before in
-      let row-count = recast .before in
+      let put-out = decide .before .before .before .before in
+      let row-count = put-out .before in
       let second-link = row-count .before .before in
       let thin = second-link .before .before .before in
       let first-link = thin .before .before in
       let else1 = first-link .before in
       let start = else1 .before .before .before .before .before in
-      (thinned-row _ _ _ _ (else1 .if1 .left) _ _ (first-link .first-link .ensures .0) (second-link .second-link .ensures .0) _ _ _ _ _ (row-count .row-count .ensures) (thin .thin .ensures .0) (recast .recast .ensures) (decide .decide .ensures), sieved-bounded _ _ _ _ _ (decide .decide .ensures) (put-low (start .args .table .now) _ (row-count .row-count .ensures) _ _ (thin .thin .ensures .1) (recast .recast .ensures)))
+      (thinned-row _ _ _ _ (else1 .if1 .left) _ _ (first-link .first-link .ensures .0) (second-link .second-link .ensures .0) _ _ _ _ _ (row-count .row-count .ensures) (thin .thin .ensures .0) (put-out .put-out .ensures) (decide .decide .ensures), sieved-bounded _ _ _ _ _ (decide .decide .ensures) (put-low (start .args .table .now) _ (row-count .row-count .ensures) _ _ (thin .thin .ensures .1) (put-out .put-out .ensures)))

@@ -1,18 +1,18 @@
-// Which predicates count (document 01, "Turning round"): those that are numbers, or hold op 2 or 3 not inside a path of their own.
-use crate::field_at;
-use crate::fields::is_number;
-use crate::first_link;
-use crate::second_link;
+// Which predicates count (document 01, "Turning round"): those that are numbers, or hold op 2 or 3 not inside a path of their own;
+// and what of a path needs a look at each node, a choice of the evaluator's.
 use basics::both;
 use basics::either;
 use basics::same;
-ghost use mathlib.Core.Bool.{false};
+use path::field_at;
+use path::fields::is_number;
+use path::first_link;
+use path::second_link;
 ghost use mathlib.Core.Path.{_≡_};
 ghost use Prim.Native.Nat.{_≤_};
 ghost use Rattle.meaning.specs.Rows.{opOf};
 ghost use Rattle.meaning.specs.Tree.{tree};
 ghost use Rattle.meaning.specs.Turning as turning;
-ghost use Rattle.path.specs.Heavy.{heavy};
+ghost use Rattle.counting.specs.Heavy.{heavy};
 
 // Ops 2 and 3: position() and last().
 fn is_contextual(op: usize) -> bool

@@ -1,9 +1,9 @@
--- `path::counting::is_numeric` meets its contract: no link is no number, a row is one by its op.
+-- `counting::is_numeric` meets its contract: no link is no number, a row is one by its op.
 -- Assumes nothing.
 use borrow.Author.Needs.{needs}
 use Rattle.meaning.proofs.Counting.{numeric-none, numeric-row}
-use Rattle.path.proofs.counting.is_numeric.Statement.{statement}
-use Rattle.path.proofs.counting.is_numeric.Tie as tie
+use Rattle.counting.proofs.is_numeric.Statement.{statement}
+use Rattle.counting.proofs.is_numeric.Tie as tie
 
 returns : tie.Need-returns
 returns c = numeric-none _ _ (c .if1 .taken)

@@ -1,20 +1,20 @@
--- `path::counting::counting` meets its contract: by what the chain before it and the predicate's own expression give; the measure is the link, which falls.
+-- `counting::counting` meets its contract: by what the chain before it and the predicate's own expression give; the measure is the link, which falls.
 -- Assumes nothing.
 use borrow.Author.Needs.{needs}
 use Rattle.meaning.proofs.Counting.{counting-none, counting-row}
 use Prim.Native.Nat.{ℕ, _<_}
 use borrow.Fn.Kinds.{In}
 use borrow.Fn.PlainCycle.{Measures, is, falls, and}
-use Rattle.path.proofs.counting.counting.Reads as counting
-use Rattle.path.proofs.counting.counting.Kinds as counting-kinds
-use Rattle.path.proofs.counting.+counting.Lts-counting as counting-lts
+use Rattle.counting.proofs.counting.Reads as counting
+use Rattle.counting.proofs.counting.Kinds as counting-kinds
+use Rattle.counting.proofs.+counting.Lts-counting as counting-lts
 use Rattle.basics.proofs.either.Reads as either-reads
-use Rattle.path.proofs.counting.asks.Reads as asks-reads
-use Rattle.path.proofs.counting.is_numeric.Reads as is-numeric-reads
+use Rattle.counting.proofs.asks.Reads as asks-reads
+use Rattle.counting.proofs.is_numeric.Reads as is-numeric-reads
 use Rattle.path.proofs.first_link.Reads as first-link-reads
 use Rattle.path.proofs.second_link.Reads as second-link-reads
-use Rattle.path.proofs.counting.+counting.{statement}
-use Rattle.path.proofs.counting.+counting.Tie.{close}
+use Rattle.counting.proofs.+counting.{statement}
+use Rattle.counting.proofs.+counting.Tie.{close}
 
 abbrev μ-counting : Measures 1 counting-kinds.ps ℕ
 μ-counting κs a = a .1 .0

@@ -1,21 +1,21 @@
--- `path::counting::asks` meets its contract: by what was read of the row and what the links' trees ask; the measure is the link, which falls.
+-- `counting::asks` meets its contract: by what was read of the row and what the links' trees ask; the measure is the link, which falls.
 -- Assumes nothing.
 use borrow.Author.Needs.{needs}
 use Rattle.meaning.proofs.Counting.{asks-none, asks-itself, asks-no-path, asks-links}
 use Prim.Native.Nat.{ℕ, _<_}
 use borrow.Fn.Kinds.{In}
 use borrow.Fn.PlainCycle.{Measures, is, falls, and}
-use Rattle.path.proofs.counting.asks.Reads as asks
-use Rattle.path.proofs.counting.asks.Kinds as asks-kinds
-use Rattle.path.proofs.counting.+asks.Lts-asks as asks-lts
+use Rattle.counting.proofs.asks.Reads as asks
+use Rattle.counting.proofs.asks.Kinds as asks-kinds
+use Rattle.counting.proofs.+asks.Lts-asks as asks-lts
 use Rattle.basics.proofs.either.Reads as either-reads
-use Rattle.path.proofs.counting.is_contextual.Reads as is-contextual-reads
-use Rattle.path.proofs.counting.is_over_path.Reads as is-over-path-reads
+use Rattle.counting.proofs.is_contextual.Reads as is-contextual-reads
+use Rattle.counting.proofs.is_over_path.Reads as is-over-path-reads
 use Rattle.path.proofs.field_at.Reads as field-at-reads
 use Rattle.path.proofs.first_link.Reads as first-link-reads
 use Rattle.path.proofs.second_link.Reads as second-link-reads
-use Rattle.path.proofs.counting.+asks.{statement}
-use Rattle.path.proofs.counting.+asks.Tie.{close}
+use Rattle.counting.proofs.+asks.{statement}
+use Rattle.counting.proofs.+asks.Tie.{close}
 
 abbrev μ-asks : Measures 1 asks-kinds.ps ℕ
 μ-asks κs a = a .1 .0

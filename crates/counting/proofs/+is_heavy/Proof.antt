@@ -1,22 +1,22 @@
--- `path::counting::is_heavy` meets its contract: by what was read of the row and what the links' trees hold; the measure is the link, which falls.
+-- `counting::is_heavy` meets its contract: by what was read of the row and what the links' trees hold; the measure is the link, which falls.
 -- Assumes nothing.
 use borrow.Author.Needs.{needs}
-use Rattle.path.proofs.Heavy.{heavy-none, heavy-itself, heavy-links}
+use Rattle.counting.proofs.Heavy.{heavy-none, heavy-itself, heavy-links}
 use Prim.Native.Nat.{ℕ, _<_}
 use borrow.Fn.Kinds.{In}
 use borrow.Fn.PlainCycle.{Measures, is, falls, and}
-use Rattle.path.proofs.counting.is_heavy.Reads as is-heavy
-use Rattle.path.proofs.counting.is_heavy.Kinds as is-heavy-kinds
-use Rattle.path.proofs.counting.+is_heavy.Lts-is_heavy as is-heavy-lts
+use Rattle.counting.proofs.is_heavy.Reads as is-heavy
+use Rattle.counting.proofs.is_heavy.Kinds as is-heavy-kinds
+use Rattle.counting.proofs.+is_heavy.Lts-is_heavy as is-heavy-lts
 use Rattle.basics.proofs.both.Reads as both-reads
 use Rattle.basics.proofs.either.Reads as either-reads
 use Rattle.basics.proofs.same.Reads as same-reads
-use Rattle.path.proofs.counting.counting.Reads as counting-reads
+use Rattle.counting.proofs.counting.Reads as counting-reads
 use Rattle.path.proofs.field_at.Reads as field-at-reads
 use Rattle.path.proofs.first_link.Reads as first-link-reads
 use Rattle.path.proofs.second_link.Reads as second-link-reads
-use Rattle.path.proofs.counting.+is_heavy.{statement}
-use Rattle.path.proofs.counting.+is_heavy.Tie.{close}
+use Rattle.counting.proofs.+is_heavy.{statement}
+use Rattle.counting.proofs.+is_heavy.Tie.{close}
 
 abbrev μ-is-heavy : Measures 1 is-heavy-kinds.ps ℕ
 μ-is-heavy κs a = a .1 .0

@@ -11,7 +11,7 @@ use Rattle.meaning.specs.Tree.{tree}
 use Rattle.meaning.specs.Turning.{counting}
 use Rattle.meaning.proofs.Decoding.{op-is}
 use Rattle.meaning.proofs.Trees.{tree-zero, tree-row}
-use Rattle.path.specs.Heavy.{heavy}
+use Rattle.counting.specs.Heavy.{heavy}
 
 module _ (p : List ℕ) (l : ℕ) where
   -- no link

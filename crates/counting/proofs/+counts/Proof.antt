@@ -1,19 +1,19 @@
--- `path::counting::counts` meets its contract: by the rows of the chain. The measure is the link.
+-- `counting::counts` meets its contract: by the rows of the chain. The measure is the link.
 -- Assumes nothing.
 use borrow.Author.Needs.{needs}
 use Rattle.meaning.proofs.Counting.{counts-none, counts-row}
 use Prim.Native.Nat.{ℕ, _<_}
 use borrow.Fn.Kinds.{In}
 use borrow.Fn.PlainCycle.{Measures, is, falls, and}
-use Rattle.path.proofs.counting.counts.Reads as counts
-use Rattle.path.proofs.counting.counts.Kinds as counts-kinds
-use Rattle.path.proofs.counting.+counts.Lts-counts as counts-lts
+use Rattle.counting.proofs.counts.Reads as counts
+use Rattle.counting.proofs.counts.Kinds as counts-kinds
+use Rattle.counting.proofs.+counts.Lts-counts as counts-lts
 use Rattle.basics.proofs.either.Reads as either-reads
-use Rattle.path.proofs.counting.counting.Reads as counting-reads
+use Rattle.counting.proofs.counting.Reads as counting-reads
 use Rattle.path.proofs.first_link.Reads as first-link-reads
 use Rattle.path.proofs.second_link.Reads as second-link-reads
-use Rattle.path.proofs.counting.+counts.{statement}
-use Rattle.path.proofs.counting.+counts.Tie.{close}
+use Rattle.counting.proofs.+counts.{statement}
+use Rattle.counting.proofs.+counts.Tie.{close}
 
 abbrev μ-counts : Measures 1 counts-kinds.ps ℕ
 μ-counts κs a = a .1 .0

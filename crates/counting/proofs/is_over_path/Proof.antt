@@ -1,9 +1,9 @@
--- `path::counting::is_over_path` meets its contract: an op is told by its number.
+-- `counting::is_over_path` meets its contract: an op is told by its number.
 -- Assumes nothing.
 use borrow.Author.Needs.{needs}
 use Rattle.meaning.proofs.Counting.{over-path-ops}
-use Rattle.path.proofs.counting.is_over_path.Statement.{statement}
-use Rattle.path.proofs.counting.is_over_path.Tie as tie
+use Rattle.counting.proofs.is_over_path.Statement.{statement}
+use Rattle.counting.proofs.is_over_path.Tie as tie
 
 same-requires : tie.Need-same-requires
 same-requires c κs = search needs
