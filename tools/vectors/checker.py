@@ -282,7 +282,7 @@ def turn(path, literals, room):
 # ---- the view ----
 
 def view(table, entries, node):
-    """(begin, length), or None for an empty part."""
+    """begin, length, the entries of the part; or None for an empty part."""
     number, rows = check_table(table)
     if number != 0 or node >= rows:
         return None
@@ -292,4 +292,4 @@ def view(table, entries, node):
         return None
     last = node + table[4 * node + 3]
     inside = [i for i, v in enumerate(entries) if node <= v <= last]
-    return (inside[0], len(inside)) if inside else None
+    return (inside[0], len(inside), [entries[i] for i in inside]) if inside else None

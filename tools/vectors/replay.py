@@ -7,6 +7,7 @@
 import sys
 
 import meaning
+import sheet
 import slips
 
 
@@ -41,16 +42,15 @@ class Player:
         nodes = self.evaluator(*inputs).select(start)
         if len(nodes) > room:
             return "8 %d" % len(nodes)
-        return " ".join(str(v) for v in [0, len(nodes)] + nodes)
+        return sheet.answer(0, len(nodes), nodes)
 
     def turn(self, room):
-        number, place, rows = self.check.turn(self.state["path"], self.state["literals"], room)
-        return " ".join(str(v) for v in [number, place] + rows)
+        return sheet.answer(*self.check.turn(self.state["path"], self.state["literals"], room))
 
     def view(self, node, count, *entries):
         assert count == len(entries)
         part = self.check.view(self.state["table"], list(entries), node)
-        return "empty" if part is None else "%d %d" % part
+        return "empty" if part is None else sheet.answer(*part)
 
 
 def answers(commands, check, evaluator):

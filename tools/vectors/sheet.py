@@ -45,12 +45,13 @@ class Sheet:
     def view(self, sort, table, node, entries, part):
         self.set("table", table)
         command = listing("view %d" % node, entries)
-        self.add(sort, command, "empty" if part is None else "%d %d" % part)
+        self.add(sort, command, "empty" if part is None else answer(*part))
 
 
 def listing(word, numbers):
     return " ".join([word, str(len(numbers))] + [str(v) for v in numbers])
 
 
-def answer(number, place, written):
-    return " ".join(str(v) for v in [number, place] + list(written))
+def answer(first, second, entries):
+    """The two numbers of an answer, then the entries written or handed back."""
+    return " ".join(str(v) for v in [first, second] + list(entries))

@@ -337,10 +337,19 @@ def holds_any_position(rows, r):
 def open_view(table, entries, node):
     """The last node of the subtree is left out."""
     right = checker.view(table, entries, node)
+    if right is None or node + table[4 * node + 3] not in entries:
+        return right
+    begin, length, inside = right
+    return begin, length - 1, inside[:-1]
+
+
+def moved_view(table, entries, node):
+    """The part begins an entry further on than it says."""
+    right = checker.view(table, entries, node)
     if right is None:
         return None
-    last = node + table[4 * node + 3]
-    return (right[0], right[1] - 1) if last in entries else right
+    begin, length, _ = right
+    return begin, length, entries[begin + 1:begin + 1 + length]
 
 
 EVALUATORS = {
@@ -383,6 +392,7 @@ CHECKERS = {
     "single literal not checked": dict(bad_literal=used_literals),
     "inner position() counts": dict(holds_position=holds_any_position),
     "view without its last node": dict(view=open_view),
+    "view an entry further on": dict(view=moved_view),
     "depth 7 at most": dict(MAX_DEPTH=7),
     "depth 9 allowed": dict(MAX_DEPTH=9),
     "tests up to 65,552": dict(test_allowed=lambda t: t <= 4 or 17 <= t <= 65552),

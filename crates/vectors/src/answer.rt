@@ -60,22 +60,23 @@ pub fn answer_turn(line: &[u8], at: usize, path: &[u32], literals: &[f64]) {
     write_answer(answer, 5 * answer.place as usize, out);
 }
 
-// `begin length`, or `empty`
-fn write_part(begin: usize, length: usize) {
-    let mut space = io::buffer();
+// `begin length` and the entries of the part, or `empty`.
+fn write_part(begin: usize, part: &[u32]) {
+    let mut space = io::large_buffer();
     let line: &mut [u8] = &mut space;
-    if length == 0 {
-        let used = put_text(line, 0, b"empty");
-        write_line(line, used);
+    let mut used = 0;
+    if part.len() == 0 {
+        used = put_text(line, used, b"empty");
     } else {
-        let mut used = put_number(line, 0, small(begin as u64));
+        used = put_number(line, used, small(begin as u64));
         used = put_byte(line, used, b' ');
-        used = put_number(line, used, small(length as u64));
-        write_line(line, used);
+        used = put_number(line, used, small(part.len() as u64));
+        used = put_numbers(line, used, part);
     }
+    write_line(line, used);
 }
 
-// `view node n ...`: where the part begins, and the entries of the part itself as its length.
+// `view node n ...`: where the part begins, and the part itself.
 pub fn answer_view(line: &[u8], at: usize, table: &[u32]) {
     let node = number_at(line, at);
     let v = small(node.value);
@@ -84,6 +85,5 @@ pub fn answer_view(line: &[u8], at: usize, table: &[u32]) {
     let count = read_numbers(line, node.next, list);
     let entries = front(list, count);
     let ends = view::ends_of(table, entries, v);
-    let part = view::view(table, entries, v);
-    write_part(ends.begin, part.len());
+    write_part(ends.begin, view::view(table, entries, v));
 }
