@@ -4,6 +4,7 @@ use lines::output::UNTOUCHED;
 use lines::output::front;
 use lines::output::is_changed;
 use lines::output::least;
+use lines::output::written;
 use lines::pad_to;
 use lines::put_byte;
 use lines::put_number;
@@ -56,26 +57,31 @@ fn put_answer(line: &mut [u8], used: usize, answer: Answer, noun: &[u8]) -> usiz
     }
 }
 
-// Where nothing may be written: was nothing?
-fn put_refused(line: &mut [u8], used: usize, out: &[u32]) -> usize {
-    if is_changed(out, 0) {
-        put_text(line, used, b", CHANGED")
-    } else {
-        put_text(line, used, b", nothing written")
+// What the call may not write: all of the slice where it refused, else what lies behind the entries that it wrote.
+fn put_rest(line: &mut [u8], used: usize, number: u32, out: &[u32], count: usize) -> usize {
+    if is_changed(out, count) {
+        return put_text(line, used, b", changed");
     }
+    if number == 0 {
+        return used;
+    }
+    put_text(line, used, b", nothing written")
 }
 
 // The selected nodes.
-fn put_nodes(line: &mut [u8], used: usize, place: u32, out: &[u32]) -> usize {
-    if place == 0 {
+fn put_nodes(line: &mut [u8], used: usize, nodes: &[u32]) -> usize {
+    if nodes.len() == 0 {
         return used;
     }
     let end = put_byte(line, used, b':');
-    put_numbers(line, end, front(out, place as usize))
+    put_numbers(line, end, nodes)
 }
 
 // The rows of a turned path, each in parentheses.
 fn put_rows(line: &mut [u8], used: usize, rows: &[u32]) -> usize {
+    if rows.len() == 0 {
+        return used;
+    }
     let mut end = put_byte(line, used, b':');
     let mut i = 0;
     while i < rows.len() {
@@ -142,15 +148,13 @@ pub fn evaluates(
     let size = least(room, MOST_ENTRIES);
     let out = &mut entries[..size];
     let answer = select::evaluate(table, path, literals, start, out);
+    let count = written(answer.number, answer.place as usize);
     let mut space = io::buffer();
     let line: &mut [u8] = &mut space;
     let mut used = put_name(line, name);
     used = put_answer(line, used, answer, b"node");
-    if answer.number == 0 {
-        used = put_nodes(line, used, answer.place, out);
-    } else {
-        used = put_refused(line, used, out);
-    }
+    used = put_nodes(line, used, front(out, count));
+    used = put_rest(line, used, answer.number, out, count);
     write_line(line, used);
 }
 
@@ -165,15 +169,13 @@ pub fn turns(name: &[u8], path: &[u32], literals: &[f64], room: usize) {
     let size = least(room, MOST_ENTRIES);
     let out = &mut entries[..size];
     let answer = turn::turn(path, literals, out);
+    let count = written(answer.number, 5 * answer.place as usize);
     let mut space = io::buffer();
     let line: &mut [u8] = &mut space;
     let mut used = put_name(line, name);
     used = put_answer(line, used, answer, b"row");
-    if answer.number == 0 {
-        used = put_rows(line, used, front(out, 5 * answer.place as usize));
-    } else {
-        used = put_refused(line, used, out);
-    }
+    used = put_rows(line, used, front(out, count));
+    used = put_rest(line, used, answer.number, out, count);
     write_line(line, used);
 }
 

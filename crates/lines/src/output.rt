@@ -16,6 +16,11 @@ pub fn front(s: &[u32], n: usize) -> &[u32] {
     &s[..end]
 }
 
+// How many entries a call has written: so many on 0, and none where it refused.
+pub fn written(number: u32, entries: usize) -> usize {
+    if number == 0 { entries } else { 0 }
+}
+
 // Has an entry from an index on changed?
 pub fn is_changed(out: &[u32], from: usize) -> bool {
     let mut i = from;

@@ -6,6 +6,7 @@ use crate::read::small;
 use lines::output::UNTOUCHED;
 use lines::output::front;
 use lines::output::is_changed;
+use lines::output::written;
 use lines::put_byte;
 use lines::put_number;
 use lines::put_numbers;
@@ -20,7 +21,7 @@ const MOST_ENTRIES: usize = 4200;
 fn write_answer(answer: Answer, entries: usize, out: &[u32]) {
     let mut space = io::large_buffer();
     let line: &mut [u8] = &mut space;
-    let count = if answer.number == 0 { entries } else { 0 };
+    let count = written(answer.number, entries);
     let mut used = put_number(line, 0, answer.number);
     used = put_byte(line, used, b' ');
     used = put_number(line, used, answer.place);

@@ -18,6 +18,12 @@ slice-aggregate-out c = simp length-take (omega arith)
 evaluate-requires : tie.Need-evaluate-requires
 evaluate-requires c κs = search needs
 
+cast-written : tie.Need-cast-written
+cast-written c = search needs
+
+written-requires : tie.Need-written-requires
+written-requires c κs = search needs
+
 buffer-requires : tie.Need-buffer-requires
 buffer-requires c κs = search needs
 
@@ -33,11 +39,14 @@ slice-aggregate-put-answer c = search needs
 put-answer-requires : tie.Need-put-answer-requires
 put-answer-requires c κs = search needs
 
+front-requires : tie.Need-front-requires
+front-requires c κs = search needs
+
 put-nodes-requires : tie.Need-put-nodes-requires
 put-nodes-requires c κs = search needs
 
-put-refused-requires : tie.Need-put-refused-requires
-put-refused-requires c κs = search needs
+put-rest-requires : tie.Need-put-rest-requires
+put-rest-requires c κs = search needs
 
 write-line-requires : tie.Need-write-line-requires
 write-line-requires c κs = search needs
@@ -53,12 +62,15 @@ evaluates-spec =
     array-borrow-prefix-entries
     slice-aggregate-out
     evaluate-requires
+    cast-written
+    written-requires
     buffer-requires
     slice-aggregate-line
     put-name-requires
     slice-aggregate-put-answer
     put-answer-requires
+    front-requires
     put-nodes-requires
-    put-refused-requires
+    put-rest-requires
     write-line-requires
     returns)

@@ -13,6 +13,9 @@ Inv-loop line₀ used rows end₀ i₀ line end i = (i ≤ length rows) × (leng
 abbrev μ-loop : tie.MeasureT-loop
 μ-loop line₀ used rows end₀ i₀ line end i = length rows - i
 
+returns : tie.Need-returns Inv-loop μ-loop
+returns c = search needs
+
 put-byte-requires : tie.Need-put-byte-requires Inv-loop μ-loop
 put-byte-requires c κs = search needs
 
@@ -46,8 +49,8 @@ loop-again c = search needs
 same-length : tie.Need-same-length Inv-loop μ-loop
 same-length c = search needs
 
-returns : tie.Need-returns Inv-loop μ-loop
-returns c = search needs
+returns-2 : tie.Need-returns-2 Inv-loop μ-loop
+returns-2 c = search needs
 
 pub put-rows-spec : {M : Type 1} → statement M
 put-rows-spec =
@@ -55,6 +58,7 @@ put-rows-spec =
     (tie.spec
     Inv-loop
     μ-loop
+    returns
     put-byte-requires
     loop-holds
     put-opening-requires
@@ -66,4 +70,4 @@ put-rows-spec =
     loop-less
     loop-again
     same-length
-    returns)
+    returns-2)

@@ -18,6 +18,15 @@ slice-aggregate-out c = simp length-take (omega arith)
 turn-requires : tie.Need-turn-requires
 turn-requires c κs = search needs
 
+cast-written : tie.Need-cast-written
+cast-written c = search needs
+
+mul-written : tie.Need-mul-written
+mul-written c = search needs
+
+written-requires : tie.Need-written-requires
+written-requires c κs = search needs
+
 buffer-requires : tie.Need-buffer-requires
 buffer-requires c κs = search needs
 
@@ -33,20 +42,14 @@ slice-aggregate-put-answer c = search needs
 put-answer-requires : tie.Need-put-answer-requires
 put-answer-requires c κs = search needs
 
-cast-front : tie.Need-cast-front
-cast-front c = search needs
-
-mul-front : tie.Need-mul-front
-mul-front c = search needs
-
 front-requires : tie.Need-front-requires
 front-requires c κs = search needs
 
 put-rows-requires : tie.Need-put-rows-requires
 put-rows-requires c κs = search needs
 
-put-refused-requires : tie.Need-put-refused-requires
-put-refused-requires c κs = search needs
+put-rest-requires : tie.Need-put-rest-requires
+put-rest-requires c κs = search needs
 
 write-line-requires : tie.Need-write-line-requires
 write-line-requires c κs = search needs
@@ -62,15 +65,16 @@ turns-spec =
     array-borrow-prefix-entries
     slice-aggregate-out
     turn-requires
+    cast-written
+    mul-written
+    written-requires
     buffer-requires
     slice-aggregate-line
     put-name-requires
     slice-aggregate-put-answer
     put-answer-requires
-    cast-front
-    mul-front
     front-requires
     put-rows-requires
-    put-refused-requires
+    put-rest-requires
     write-line-requires
     returns)
