@@ -79,9 +79,30 @@ static void many_operands(struct maker *m, uint32_t op, bool right)
     finish(m, row(m, 24, 0, predicate, 1, 0));
 }
 
-/* paths nested 8 deep, each of some steps, held by existence or count;
- * the outermost path begins with the axis top */
-static void nested_paths(struct maker *m, uint32_t top, uint32_t axis, int steps, uint32_t op)
+/* a predicate with ands or ors nested as deep as fits, on their left or right; none asks for a
+ * position, so that they are decided for a whole set at once */
+static void many_truths(struct maker *m, uint32_t op, bool right)
+{
+    uint32_t value = row(m, 20, row(m, 23, 0, 0, 0, 0), 0, 0, 0);
+    while (m->rows + 6 <= 256) {
+        uint32_t leaf = row(m, 20, row(m, 23, 0, 0, 0, 0), 0, 0, 0);
+        value = right ? row(m, op, leaf, value, 0, 0) : row(m, op, value, leaf, 0, 0);
+    }
+    uint32_t predicate = row(m, 25, 0, value, 0, 0);
+    finish(m, row(m, 24, 0, predicate, 1, 0));
+}
+
+/* a number of rows of one op over each other */
+static uint32_t wrap(struct maker *m, uint32_t op, uint32_t value, int count)
+{
+    for (int i = 0; i < count; i++)
+        value = row(m, op, value, 0, 0, 0);
+    return value;
+}
+
+/* paths nested 8 deep, each of some steps, held by existence or count under some nots in the
+ * first of them; the outermost path begins with the axis top */
+static void nested_paths(struct maker *m, uint32_t top, uint32_t axis, int steps, uint32_t op, int nots)
 {
     uint32_t path = 0;
     for (int depth = 8; depth > 0; depth--) {
@@ -90,17 +111,42 @@ static void nested_paths(struct maker *m, uint32_t top, uint32_t axis, int steps
             uint32_t value = row(m, op, path, 0, 0, 0);
             if (op == 21)
                 value = row(m, 19, value, 0, 0, 0);
-            predicate = row(m, 25, 0, value, 0, 0);
+            predicate = row(m, 25, 0, wrap(m, 18, value, nots), 0, 0);
         }
         if (depth == 1)
             axis = top;
         for (int i = 0; i < steps; i++)
-            step = row(m, 24, step, i == steps - 1 ? predicate : 0, i % 2 == 0 ? axis : 5, 0);
+            step = row(m, 24, step, i == 0 ? predicate : 0, i % 2 == 0 ? axis : 5, 0);
         if (depth == 1)
             finish(m, step);
         else
             path = row(m, 22, step, 0, 0, 0);
     }
+}
+
+/* a step to the node itself, with one predicate */
+static uint32_t self_step(struct maker *m, uint32_t value)
+{
+    return row(m, 24, 0, row(m, 25, 0, value, 0, 0), 0, 0);
+}
+
+/* steps that count nested so deep: each keeps the node whose position is the count of the path
+ * inside it, under some negations */
+static uint32_t counting_steps(struct maker *m, int depth, int negations)
+{
+    uint32_t step = self_step(m, row(m, 2, 0, 0, 0, 0));
+    for (int i = 1; i < depth; i++) {
+        uint32_t count = row(m, 21, row(m, 22, step, 0, 0, 0), 0, 0, 0);
+        step = self_step(m, wrap(m, 9, count, negations));
+    }
+    return step;
+}
+
+/* the most stack: steps that count nested 7 deep, below as many nots as fit, decided for a set */
+static void deepest(struct maker *m)
+{
+    uint32_t held = row(m, 20, row(m, 22, counting_steps(m, 7, 0), 0, 0, 0), 0, 0, 0);
+    finish(m, self_step(m, wrap(m, 18, held, 256 - 3 - (int)m->rows)));
 }
 
 /* ---- one case on a small stack ---- */
@@ -262,20 +308,41 @@ static void run_operands(void)
         }
 }
 
+static void run_truths(void)
+{
+    for (int right = 0; right < 2; right++) {
+        struct maker m = begin(BUSHY, 1);
+        many_truths(&m, 16, right);
+        run_case("operands on one side, of a set: and");
+        m = begin(BUSHY, 1);
+        many_truths(&m, 17, right);
+        run_case("operands on one side, of a set: or");
+    }
+}
+
 static void run_nested(void)
 {
     struct maker m = begin(CHAIN, 0);
-    nested_paths(&m, 3, 1, 1, 20);
+    nested_paths(&m, 3, 1, 1, 20, 0);
     run_case("existence nested 8 deep, child, from all nodes");
     m = begin(BUSHY, 0);
-    nested_paths(&m, 3, 1, 1, 21);
+    nested_paths(&m, 3, 1, 1, 21, 0);
     run_case("count nested 8 deep, child, from all nodes");
     m = begin(CHAIN, 4095);
-    nested_paths(&m, 4, 2, 1, 20);
+    nested_paths(&m, 4, 2, 1, 20, 0);
     run_case("existence nested 8 deep, parent, from a chain");
     m = begin(WIDE, 4000);
-    nested_paths(&m, 0, 0, 25, 20);
+    nested_paths(&m, 0, 0, 25, 20, 0);
     run_case("existence nested 8 deep, 25 steps each");
+    m = begin(CHAIN, 0);
+    nested_paths(&m, 3, 1, 1, 20, 32);
+    run_case("existence nested 8 deep, under 32 nots each");
+    m = begin(WIDE, 4000);
+    finish(&m, counting_steps(&m, 8, 32));
+    run_case("counting steps nested 8 deep, 32 negations each");
+    m = begin(WIDE, 4000);
+    deepest(&m);
+    run_case("counting steps nested 7 deep, below 224 nots");
 }
 
 int stress(void)
@@ -283,6 +350,7 @@ int stress(void)
     run_steps();
     run_predicates();
     run_operands();
+    run_truths();
     run_nested();
     printf("stress: %d different; most stack used %lu KiB of 1,024\n", differences, (unsigned long)(most / 1024));
     return differences != 0;
