@@ -48,7 +48,10 @@
  *     What it only reads may overlap freely and is never changed.
  *   - Nothing is kept after the call: the caller owns all memory.
  *   - No heap, no globals, no locks, no files: the functions are reentrant and
- *     may run in any number of threads. They always return.
+ *     may run in any number of threads.
+ *   - They always return, but the time of an evaluation is not bounded yet:
+ *     counts of paths and steps that count positions, nested in each other,
+ *     take a power of the rows for each nesting.
  *   - A stack of 1 MiB is enough for every input.
  *   - Any content is allowed: damaged tables, paths, literals and lists are
  *     refused with a number and a place, never undefined behaviour.
