@@ -4,19 +4,19 @@
 use Prim.Native.Nat.{ℕ, zero, suc, _<_, _≤_}
 use mathlib.Core.Path.{_≡_, refl, sym, subst, _∙_}
 use mathlib.Core.Logic.{inl, inr}
-use mathlib.Core.Bool.{Bool, true, false, _&&_, _||_, cond}
-use mathlib.Core.List.{List, [], _∷_, _++_}
+use mathlib.Core.Bool.{Bool, true, false, _&&_, _||_}
+use mathlib.Core.List.{List}
 use borrow.Author.Tests.{lt-ltb}
-use lib.Dec.{T, leb, ltb, eqb, eqb-refl, ltb→lt, leb→le, eqb→eq, lt→ltb, le→leb}
+use lib.Dec.{T, leb, ltb, eqb, ltb→lt, leb→le, eqb→eq, lt→ltb, le→leb}
 use native.Mathlib.Omega.{arith}
 use native.Mathlib.Nat.{eq-or-lt-of-le}
-use Rattle.meaning.specs.Lists.{keep, some, has, upTo, downFrom}
+use Rattle.meaning.specs.Lists.{has}
 use Rattle.meaning.specs.Table.{parentOf, rows, end, accepted}
 use Rattle.meaning.specs.Axis.{Axis, Test, inside, on, passes, isReverse, ordered, candidates}
 use Rattle.meaning.specs.Axis as A
 use Rattle.meaning.specs.Turning.{inverse}
 use Rattle.meaning.proofs.Bools.{and-l, and-r, and-i, or-e, or-i-l, or-i-r, eqb-sym, eq→eqb, same, lt-or-ge}
-use Rattle.meaning.proofs.Lists.{some-append, has-keep-to, has-keep-from, has-order-to, has-order-from, has-downFrom-to, has-upTo-to}
+use Rattle.meaning.proofs.Lists.{Monotone, has-keep-to, has-keep-from, has-order-to, has-order-from, keep-monotone, order-monotone}
 use Rattle.meaning.proofs.Tables.{Child, child, nest}
 
 -- y lies on an axis of x exactly when x lies on the inverse axis of y
@@ -94,52 +94,7 @@ unfolding candidates
 candidate-from t a u x y h k l =
     has-keep-from (λ z. on t a x z && passes t u z) (ordered (isReverse a) (rows t)) y (and-i (on t a x y) (passes t u y) h k) (has-order-from (isReverse a) (rows t) y l)
 
--- x stands before y in document order, or in reverse
-unfoldable pub Before : Bool → ℕ → ℕ → Type 0
-Before false x y = x < y
-Before true x y = y < x
-
--- each member stands before all behind it
-unfoldable pub Monotone : Bool → List ℕ → Type 0
-Monotone r [] = Unit {0}
-Monotone r (x ∷ xs) = ((y : ℕ) → T (has xs y) → Before r x y) × Monotone r xs
-
-monotone-down : (n : ℕ) → Monotone true (downFrom n)
-unfolding downFrom Monotone Before
-monotone-down zero = tt
-monotone-down (suc n) = (has-downFrom-to n, monotone-down n)
-
-monotone-last : (l : List ℕ) (n : ℕ) → Monotone false l → ((y : ℕ) → T (has l y) → y < n) → Monotone false (l ++ (n ∷ []))
-unfolding Monotone Before some
-monotone-last [] n m h = (λ y f. absurd f, tt)
-monotone-last (x ∷ xs) n m h = (
-  λ y f. or-e (has xs y) (has (n ∷ []) y) (rw (some-append (eqb y) xs (n ∷ [])) at f)
-      (λ k. m .0 y k)
-      (λ k. or-e (eqb y n) false k
-      (λ e. omega (arith, eqb→eq y n e, h x (or-i-l (eqb x x) (has xs x) (eqb-refl x))))
-      (λ e. absurd e)),
-  monotone-last xs n (m .1) (λ y f. h y (or-i-r (eqb y x) (has xs y) f)),
-)
-
-monotone-up : (n : ℕ) → Monotone false (upTo n)
-unfolding upTo Monotone
-monotone-up zero = tt
-monotone-up (suc n) = monotone-last (upTo n) n (monotone-up n) (has-upTo-to n)
-
-monotone-keep : (r : Bool) (p : ℕ → Bool) (l : List ℕ) → Monotone r l → Monotone r (keep p l)
-unfolding keep Monotone
-monotone-keep r p [] m = m
-monotone-keep r p (x ∷ xs) m = go (p x) (monotone-keep r p xs (m .1))
-  where
-    go : (b : Bool) → Monotone r (keep p xs) → Monotone r (cond b (x ∷ keep p xs) (keep p xs))
-    go true k = (λ y f. m .0 y (has-keep-to p xs y f .1), k)
-    go false k = k
-
 -- the candidates are strictly monotone along the axis
 pub candidates-monotone : (t : List ℕ) (a : Axis) (u : Test) (x : ℕ) → Monotone (isReverse a) (candidates t a u x)
 unfolding candidates
-candidates-monotone t a u x = monotone-keep (isReverse a) (λ y. on t a x y && passes t u y) (ordered (isReverse a) (rows t)) (by (isReverse a))
-  where
-    by : (r : Bool) → Monotone r (ordered r (rows t))
-    by true = unfold ordered in monotone-down (rows t)
-    by false = unfold ordered in monotone-up (rows t)
+candidates-monotone t a u x = keep-monotone (isReverse a) (λ y. on t a x y && passes t u y) (ordered (isReverse a) (rows t)) (order-monotone (isReverse a) (rows t))

@@ -20,6 +20,7 @@ pub mod Filters
 pub mod Numbers
 pub mod Evaluation
 pub mod Outcome
+pub mod Selected
 pub mod Backward
 pub mod Near
 pub mod View

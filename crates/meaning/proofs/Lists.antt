@@ -1,4 +1,4 @@
--- Laws of lists of numbers: members, what is kept of a list, the orders of rows, the lowest number at which a test holds.
+-- Laws of lists of numbers: members, what is kept of a list, the orders of rows, lists in order, the lowest number at which a test holds.
 -- Assumes nothing.
 use Prim.Native.Nat.{ℕ, zero, suc, _+_, _-_, _<_, _≤_}
 use mathlib.Core.Path.{_≡_, refl, sym, subst, ap, _∙_}
@@ -192,6 +192,54 @@ pub keepAt-free : (f : ℕ → ℕ → Bool) (g : ℕ → Bool) → ((y i : ℕ)
 unfolding keep keepAt
 keepAt-free f g e i [] = refl
 keepAt-free f g e i (x ∷ xs) = rw (e x i, keepAt-free f g e (i + 1) xs)
+
+-- ---- lists in order
+
+-- x stands before y in document order, or in reverse
+unfoldable pub Before : Bool → ℕ → ℕ → Type 0
+Before false x y = x < y
+Before true x y = y < x
+
+-- each entry stands before those behind it, so none stands there twice
+unfoldable pub Monotone : Bool → List ℕ → Type 0
+Monotone reverse l = (i j : ℕ) → i < j → j < length l → Before reverse (getD l i 0) (getD l j 0)
+
+-- each entry is above those before it
+abbrev pub Rising : List ℕ → Type 0
+Rising = Monotone false
+
+pub order-monotone : (r : Bool) (n : ℕ) → Monotone r (ordered r n)
+unfolding Monotone Before ordered
+order-monotone true n i j h k = let l : j < n = rw length-downFrom at k in omega (arith, downFrom-at n i (omega arith), downFrom-at n j l)
+order-monotone false n i j h k = let l : j < n = rw length-upTo at k in omega (arith, upTo-at n i (omega arith), upTo-at n j l)
+
+-- each entry of m is an entry of l
+abbrev Within : List ℕ → List ℕ → Type 0
+Within m l = (i : ℕ) → i < length m → (k : ℕ) × (k < length l) × (getD l k 0 ≡ getD m i 0)
+
+kept-within : (p : ℕ → Bool) (l : List ℕ) → Within (keep p l) l
+unfolding keep
+kept-within p [] i h = absurd (omega arith)
+kept-within p (x ∷ xs) i h = by (p x) (kept-within p xs) i h
+  where
+    behind : Within (keep p xs) xs → Within (keep p xs) (x ∷ xs)
+    behind w i h = let r = w i h in (suc (r .0), omega arith, r .2)
+
+    by : (b : Bool) → Within (keep p xs) xs → Within (cond b (x ∷ keep p xs) (keep p xs)) (x ∷ xs)
+    by false w i h = behind w i h
+    by true w zero h = (0, omega arith, refl)
+    by true w (suc i) h = behind w i (omega arith)
+
+pub keep-monotone : (r : Bool) (p : ℕ → Bool) (l : List ℕ) → Monotone r l → Monotone r (keep p l)
+unfolding keep Monotone
+keep-monotone r p [] m = m
+keep-monotone r p (x ∷ xs) m = by (p x) (keep-monotone r p xs (λ i j h k. m (suc i) (suc j) (omega arith) (omega arith)))
+  where
+    by : (b : Bool) → Monotone r (keep p xs) → Monotone r (cond b (x ∷ keep p xs) (keep p xs))
+    by false k i j h l = k i j h l
+    by true k i zero h l = absurd (omega arith)
+    by true k zero (suc j) h l = let q = kept-within p xs j (omega arith) in subst (Before r x) (q .2) (m 0 (suc (q .0)) (omega arith) (omega arith))
+    by true k (suc i) (suc j) h l = k i j (omega arith) (omega arith)
 
 -- ---- the lowest number
 

@@ -19,14 +19,10 @@ use Rattle.meaning.specs.Table.{accepted, rows, end}
 use Rattle.meaning.specs.View.{entryFits, ascending, viewable, begins, ends, viewed, partFrom, partOf, Shows}
 use Rattle.meaning.specs.declared.Part.{Part}
 use Rattle.meaning.proofs.Bools.{and-l, and-r, truly, is-true, lt-or-ge}
-use Rattle.meaning.proofs.Lists.{some-from, has-upTo-from, none-below, below-none, keep-append, keep-none, keep-each, lowest-le, lowest-is, lowest-below, lowest-at}
+use Rattle.meaning.proofs.Lists.{Before, Monotone, Rising, some-from, has-upTo-from, none-below, below-none, keep-append, keep-none, keep-each, lowest-le, lowest-is, lowest-below, lowest-at}
 use Rattle.meaning.proofs.Checks.{Passed}
 
 -- ---- lists that rise
-
--- each entry is above those before it
-unfoldable pub Rising : List ℕ → Type 0
-Rising l = (i j : ℕ) → i < j → j < length l → getD l i 0 < getD l j 0
 
 module _ (t l : List ℕ) where
   -- a list of which each entry fits is ascending
@@ -54,7 +50,7 @@ module _ (t l : List ℕ) where
 
     -- an ascending list rises
     pub ascending-rises : Rising l
-    unfolding Rising
+    unfolding Monotone Before
     ascending-rises i zero k h = absurd (omega arith)
     ascending-rises i (suc j) k h = elim (eq-or-lt-of-le {n = i} {m = j} (omega arith)) [
       | inl e ↦ rw e (above-before j h)
@@ -82,7 +78,7 @@ module _ {l : List ℕ} {v : ℕ} where
 
   -- the entry in the middle is below v: so are all before it
   pub bracket-up : {low high : ℕ} (m : ℕ) → Rising l → Bracket l v low high → m < high → getD l m 0 < v → Bracket l v (m + 1) high
-  unfolding Rising
+  unfolding Monotone Before
   bracket-up m up b h k = record {
     order = omega arith;
     within = b .within;
@@ -138,7 +134,7 @@ module _ (l : List ℕ) (up : Rising l) (v m b e : ℕ) (order : b ≤ e) (withi
   before-begin i h = leb-false v (getD l i 0) (lowest-below (λ i. leb v (getD l i 0)) (length l) i (omega arith))
 
   from-begin : (i : ℕ) → b ≤ i → i < length l → v ≤ getD l i 0
-  unfolding Rising
+  unfolding Monotone Before
   from-begin i h k =
       let f : v ≤ getD l b 0 = leb-true v (getD l b 0) (rw at-begin (lowest-at (λ i. leb v (getD l i 0)) (length l) (omega arith))) in
       elim (eq-or-lt-of-le {n = b} {m = i} h) [
@@ -150,7 +146,7 @@ module _ (l : List ℕ) (up : Rising l) (v m b e : ℕ) (order : b ≤ e) (withi
   before-end i h = ltb-false m (getD l i 0) (lowest-below (λ i. ltb m (getD l i 0)) (length l) i (omega arith))
 
   from-end : (i : ℕ) → e ≤ i → i < length l → m < getD l i 0
-  unfolding Rising
+  unfolding Monotone Before
   from-end i h k =
       let f : m < getD l e 0 = ltb-true m (getD l e 0) (rw at-end (lowest-at (λ i. ltb m (getD l i 0)) (length l) (omega arith))) in
       elim (eq-or-lt-of-le {n = e} {m = i} h) [

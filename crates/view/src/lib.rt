@@ -10,7 +10,7 @@ use table::end_at;
 use table::row_count;
 ghost use mathlib.Core.Path.{_≡_};
 ghost use Rattle.meaning.specs.View.{entryFits, ascending, viewable, begins, partOf, Shows};
-ghost use Rattle.meaning.proofs.View.{Rising};
+ghost use Rattle.meaning.proofs.Lists.{Rising};
 
 // Is entry i the first, or above the entry before it, and below the row count?
 fn entry_fits(table: &[u32], list: &[u32], i: usize) -> bool
