@@ -20,7 +20,8 @@ use Rattle.meaning.proofs.Bools.{is-true, or-i-l, or-i-r, eq→eqb, lt-
 use Rattle.meaning.proofs.Lists.{none-below, some-from, has-upTo-from}
 use Rattle.meaning.proofs.Trees.{first-le, second-le}
 use Rattle.meaning.proofs.Ops.{op-code}
-use Rattle.meaning.proofs.Paths.{AcceptedPath, unlinked-above}
+use Rattle.meaning.proofs.Exactly.{AcceptedPath}
+use Rattle.meaning.proofs.Paths.{unlinked-above}
 use Rattle.meaning.proofs.ReadBack.{Tidy, Laid, Reads, row-reads, link-le, link-kept, length-written, written-rows, written-laid, written-reads-back}
 use Rattle.meaning.proofs.Made.{Made, Stands, goodNode, row-as-node}
 

@@ -2,8 +2,8 @@
 -- Assumes nothing.
 use Prim.Native.Nat.{ℕ, zero, suc, _+_, _%_, _<_, _≤_, max}
 use mathlib.Core.Path.{_≡_, refl, sym, ap, _∙_}
-use mathlib.Core.Logic.{⊎-elim}
-use mathlib.Core.Bool.{Bool, true, false, _||_, _&&_, not, cond}
+use mathlib.Core.Logic.{inr, ⊎-elim}
+use mathlib.Core.Bool.{Bool, true, false, _||_, _&&_, cond}
 use mathlib.Core.List.{List}
 use lib.ListN.{length}
 use lib.Dec.{leb, ltb, eqb, leb→le}
@@ -11,16 +11,17 @@ use lib.Ieee.{Float}
 use native.Mathlib.Omega.{arith}
 use native.Mathlib.Nat.{max-le}
 use native.Mathlib.Numerals.{add-one}
-use borrow.Author.Tests.{lt-ltb, le-ltb, not-false}
+use borrow.Author.Tests.{lt-ltb, le-ltb}
 use Rattle.meaning.specs.Lists.{upTo, some, lowest}
 use Rattle.meaning.specs.Table.{rows, lengthAllowed, broken, accepted}
 use Rattle.meaning.specs.Rows.{opAt, rowsOf, firstLink, secondLink, links, linkedBelow, isPath, mostPathRows, pathLengthAllowed, badLiteralAt, brokenRow}
 use Rattle.meaning.specs.Tree.{linked, tree, depth, mostDepth}
-use Rattle.meaning.specs.Answers.{answer, check, tableChecks, tableAnswer, pathChecks, pathAnswer, pathTree}
+use Rattle.meaning.specs.Answers.{answer, tableChecks, tableAnswer, pathChecks, pathAnswer, pathTree}
 use Rattle.meaning.specs.declared.Answer.{Answer}
-use Rattle.meaning.proofs.Bools.{lt-or-ge, and-r, truly}
+use Rattle.meaning.proofs.Bools.{lt-or-ge, and-r, truly, is-true, is-false}
 use Rattle.meaning.proofs.Lists.{some-last, lowest-is, lowest-some}
 use Rattle.meaning.proofs.Trees.{tree-suc}
+use Rattle.meaning.proofs.Exactly.{GoodPath, table-refuses, table-lets, path-refuses, path-lets, refused-table, refused-path, check-table-exactly, check-path-exactly}
 
 -- ---- the search for the lowest number at which a test holds
 
@@ -92,80 +93,36 @@ depth-le p l = linked-depth l p l
 
 -- ---- checks before what follows
 
--- checks before a last answer: where that gives 0 they let everything through, else they give the same whatever follows
-abbrev Guards : (Answer → Answer) → Answer → Type 0
-Guards checks last =
-    (checks last .number ≡ 0 → (next : Answer) → checks next ≡ next)
-    × ((checks last .number ≡ 0 → ⊥) → (next : Answer) → checks next ≡ checks last)
+module _ (t : List ℕ) where
+  -- a table whose answer is 0 is accepted, and what follows is given
+  pub table-accepted : tableAnswer t .number ≡ 0 → accepted t ≡ true
+  table-accepted e = ⊎-elim (λ r. absurd (refused-table r e)) (λ h. h .0) (check-table-exactly t (tableAnswer t) .0 refl)
 
-guards-none : (place : ℕ) → Guards (λ next. next) (answer 0 place)
-guards-none place = (λ e next. refl, λ f next. absurd (f refl))
+  pub table-passes : tableAnswer t .number ≡ 0 → (next : Answer) → tableChecks t next ≡ next
+  table-passes e next = table-lets t next (table-accepted e)
 
-guards-more : (c : Bool) (number place : ℕ) (rest : Answer → Answer) (last : Answer) → 0 < number → Guards rest last → Guards (λ next. check c number place (rest next)) last
-guards-more true number place rest last h g = (λ e next. absurd (omega arith), λ f next. refl)
-guards-more false number place rest last h g = g
+  -- one with another answer is not, and has that answer whatever follows
+  pub table-refused : (tableAnswer t .number ≡ 0 → ⊥) → accepted t ≡ false
+  table-refused f = is-false (accepted t) (λ ok. f (ap (λ (a : Answer). a .number) (check-table-exactly t (answer 0 (rows t)) .1 (inr (is-true (accepted t) ok, refl)))))
 
-table-guards : (t : List ℕ) → Guards (tableChecks t) (answer 0 (rows t))
-unfolding tableChecks
-table-guards t =
-    guards-more (not (lengthAllowed t)) 1 0 _ _ (omega arith)
-    (guards-more (some (broken t) (upTo (rows t))) 2 (lowest (broken t) (rows t)) _ _ (omega arith)
-    (guards-none (rows t)))
-
-path-guards : (p : List ℕ) (literals : List Float) → Guards (pathChecks p literals) (answer 0 (rowsOf p))
-unfolding pathChecks
-path-guards p literals =
-    guards-more (not (pathLengthAllowed p)) 3 0 _ _ (omega arith)
-    (guards-more (some (badLiteralAt literals) (upTo (length literals))) 4 (lowest (badLiteralAt literals) (length literals)) _ _ (omega arith)
-    (guards-more (some (brokenRow p (length literals)) (upTo (rowsOf p))) 5 (lowest (brokenRow p (length literals)) (rowsOf p)) _ _ (omega arith)
-    (guards-more (ltb mostDepth (depth (pathTree p))) 6 0 _ _ (omega arith)
-    (guards-none (rowsOf p)))))
-
--- a table whose answer is 0 passes, one with another answer has that answer whatever follows
-pub table-passes : (t : List ℕ) → tableAnswer t .number ≡ 0 → (next : Answer) → tableChecks t next ≡ next
-unfolding tableAnswer
-table-passes t = table-guards t .0
-
-pub table-stops : (t : List ℕ) → (tableAnswer t .number ≡ 0 → ⊥) → (next : Answer) → tableChecks t next ≡ tableAnswer t
-unfolding tableAnswer
-table-stops t = table-guards t .1
+  pub table-stops : (tableAnswer t .number ≡ 0 → ⊥) → (next : Answer) → tableChecks t next ≡ tableAnswer t
+  table-stops f next = ⊎-elim (λ r. table-refuses t next r) (λ h. absurd (f (ap (λ (a : Answer). a .number) (h .1)))) (check-table-exactly t (tableAnswer t) .0 refl)
 
 -- the same of a path
-pub path-passes : (p : List ℕ) (literals : List Float) → pathAnswer p literals .number ≡ 0 → (next : Answer) → pathChecks p literals next ≡ next
-unfolding pathAnswer
-path-passes p literals = path-guards p literals .0
+module _ (p : List ℕ) (literals : List Float) where
+  pub path-accepted : pathAnswer p literals .number ≡ 0 → GoodPath p literals
+  path-accepted e = ⊎-elim (λ r. absurd (refused-path r e)) (λ h. h .0) (check-path-exactly p literals (pathAnswer p literals) .0 refl)
 
-pub path-stops : (p : List ℕ) (literals : List Float) → (pathAnswer p literals .number ≡ 0 → ⊥) → (next : Answer) → pathChecks p literals next ≡ pathAnswer p literals
-unfolding pathAnswer
-path-stops p literals = path-guards p literals .1
+  pub path-passes : pathAnswer p literals .number ≡ 0 → (next : Answer) → pathChecks p literals next ≡ next
+  path-passes e next = path-lets p literals next (path-accepted e)
 
--- a check in front of a 0 does not apply
-clear : (c : Bool) (number place : ℕ) (rest : Answer) → 0 < number → check c number place rest .number ≡ 0 → (c ≡ false) × (rest .number ≡ 0)
-clear true number place rest h e = absurd (omega arith)
-clear false number place rest h e = (refl, e)
-
--- a table whose answer is 0 is accepted
-pub table-accepted : (t : List ℕ) → tableAnswer t .number ≡ 0 → accepted t ≡ true
-unfolding tableAnswer tableChecks accepted
-table-accepted t e =
-    let a = clear (not (lengthAllowed t)) 1 0 _ (omega arith) e in
-    let b = clear (some (broken t) (upTo (rows t))) 2 (lowest (broken t) (rows t)) _ (omega arith) (a .1) in
-    rw (not-false (lengthAllowed t) (a .0), b .0)
+  pub path-stops : (pathAnswer p literals .number ≡ 0 → ⊥) → (next : Answer) → pathChecks p literals next ≡ pathAnswer p literals
+  path-stops f next = ⊎-elim (λ r. path-refuses p literals next r) (λ h. absurd (f (ap (λ (a : Answer). a .number) (h .1)))) (check-path-exactly p literals (pathAnswer p literals) .0 refl)
 
 -- a path whose length is allowed has at most 256 rows
 pub most-rows : (p : List ℕ) → pathLengthAllowed p ≡ true → rowsOf p ≤ mostPathRows
 unfolding pathLengthAllowed
 most-rows p h = leb→le (rowsOf p) mostPathRows (and-r (eqb (length p % 5) 0 && leb 1 (rowsOf p)) (leb (rowsOf p) mostPathRows) (truly h))
-
--- and one with another answer is not
-pub table-refused : (t : List ℕ) → (tableAnswer t .number ≡ 0 → ⊥) → accepted t ≡ false
-unfolding tableAnswer tableChecks accepted
-table-refused t f = go (lengthAllowed t) (some (broken t) (upTo (rows t))) f
-  where
-    go : (a b : Bool) → (check (not a) 1 0 (check b 2 (lowest (broken t) (rows t)) (answer 0 (rows t))) .number ≡ 0 → ⊥) → (a && not b) ≡ false
-    go true true g = refl
-    go true false g = absurd (g refl)
-    go false b g = refl
 
 -- the table's answer, check by check
 module _ (t : List ℕ) where

@@ -4,93 +4,43 @@
 -- Assumes nothing.
 use Prim.Native.Nat.{ℕ, zero, suc, _+_, _-_, _*_, _<_, _≤_}
 use mathlib.Core.Path.{_≡_, refl, sym, subst, ap, _∙_}
-use mathlib.Core.Logic.{_⊎_, inl, inr}
+use mathlib.Core.Logic.{inl, inr}
 use mathlib.Core.Bool.{Bool, true, false, _&&_, _||_, not, cond}
 use mathlib.Core.List.{List}
 use lib.ListN.{length, List·getD-eq-default}
 use lib.Dec.{T, leb, ltb, eqb, eqb→eq, eqb·suc-zero}
 use lib.Ieee.{Float}
 use native.Mathlib.Omega.{arith}
-use borrow.Author.Tests.{lt-ltb, ltb-true, ltb-false}
+use borrow.Author.Tests.{lt-ltb}
 use Rattle.meaning.specs.Lists.{upTo, some, has}
 use Rattle.meaning.specs.Table.{rows}
-use Rattle.meaning.specs.Rows.{Op, opOf, opAt, code, fieldsOf, isLiteral, isStep, isPath, isLink, isUnknown, mayMiss, takes, goodTest, goodField, firstLink, secondLink, brokenRow, rowsOf, pathLengthAllowed, mostPathRows, badLiteralAt}
+use Rattle.meaning.specs.Rows.{Op, opOf, opAt, code, fieldsOf, isLiteral, isStep, isPath, isLink, isUnknown, mayMiss, takes, goodTest, goodField, firstLink, secondLink, rowsOf, mostPathRows}
 use Rattle.meaning.specs.Rows as R
-use Rattle.meaning.specs.Tree.{Tree, none, node, indexOrAxis, testAt, tree, depth, mostDepth}
+use Rattle.meaning.specs.Tree.{Tree, none, node, indexOrAxis, testAt, tree, depth}
 use Rattle.meaning.specs.Meaning.{isAbsolute}
 use Rattle.meaning.specs.Turning.{inverses, counting, steps, counts, firstCounting, inverseOf, predicates, test, back, turned, weight, written}
-use Rattle.meaning.specs.Answers.{answer, check, pathTree, pathAnswer, selected, countingStep, absolutePath, turning, turnedRows}
+use Rattle.meaning.specs.Answers.{answer, pathTree, pathAnswer, selected, countingStep, absolutePath, turning, turnedRows}
 use Rattle.meaning.specs.declared.Answer.{Answer}
-use Rattle.meaning.proofs.Bools.{and-l, and-r, and-i, or-e, is-true, truly, untrue, not-false, or-none-l, or-none-r, lt-or-ge}
+use Rattle.meaning.proofs.Bools.{and-l, and-r, and-i, or-e, is-true, truly, untrue, not-false, lt-or-ge}
 use Rattle.meaning.proofs.Lists.{below-none}
 use Rattle.meaning.proofs.Trees.{tree-row}
 use Rattle.meaning.proofs.Ops.{op-code, step-is}
-use Rattle.meaning.proofs.Paths.{AcceptedPath, GoodLiterals, check-cases, path-cases, accepted-path-answer, some-path-row, top-is-path, all-rows}
+use Rattle.meaning.proofs.Exactly.{AcceptedPath, GoodPath, Turns, TurningGives, refused, step-counts, absolute, no-room, turns, refused-path, check-path-exactly, refused-exactly}
+use Rattle.meaning.proofs.Paths.{some-path-row, top-is-path, all-rows}
 use Rattle.meaning.proofs.ReadBack.{Tidy, tree-tidy, length-written, written-rows, written-reads-back}
 use Rattle.meaning.proofs.Turning.{turned-selects-back}
 use Rattle.meaning.proofs.Made.{Made, made, goodChild, goodHeld, goodNode}
 use Rattle.meaning.proofs.Block.{written-accepted}
 
--- ---- what turning answers
+-- ---- a path that is turned
 
--- what a path has that is turned
-pub record Turns (p : List ℕ) (literals : List Float) (room : ℕ) : Type 0 where
-  pub accepted : AcceptedPath p (length literals)
-  pub good : GoodLiterals literals
-  pub none-counts : countingStep (pathTree p) ≡ 0
-  pub not-absolute : absolutePath (pathTree p) ≡ false
-  pub few : rowsOf p + 1 ≤ mostPathRows
-  pub fits : 5 * (rowsOf p + 1) ≤ room
-
--- the numbers of turning and the condition of each, those before it left behind
-pub data Verdict (p : List ℕ) (literals : List Float) (room : ℕ) : ℕ → Type 0 where
-  wrong-length : pathLengthAllowed p ≡ false → Verdict p literals room 3
-  bad-literal : pathLengthAllowed p ≡ true → some (badLiteralAt literals) (upTo (length literals)) ≡ true → Verdict p literals room 4
-  broken-row : pathLengthAllowed p ≡ true → GoodLiterals literals → some (brokenRow p (length literals)) (upTo (rowsOf p)) ≡ true → Verdict p literals room 5
-  too-deep : pathLengthAllowed p ≡ true → GoodLiterals literals → some (brokenRow p (length literals)) (upTo (rowsOf p)) ≡ false → mostDepth < depth (pathTree p) → Verdict p literals room 6
-  step-counts : AcceptedPath p (length literals) → GoodLiterals literals → 0 < countingStep (pathTree p) → Verdict p literals room 9
-  absolute : AcceptedPath p (length literals) → GoodLiterals literals → countingStep (pathTree p) ≡ 0 → absolutePath (pathTree p) ≡ true → Verdict p literals room 10
-  no-room : AcceptedPath p (length literals) → GoodLiterals literals → countingStep (pathTree p) ≡ 0 → absolutePath (pathTree p) ≡ false
-      → (mostPathRows < rowsOf p + 1) ⊎ (room < 5 * (rowsOf p + 1)) → Verdict p literals room 11
-  turns : Turns p literals room → Verdict p literals room 0
-
--- turning gives 0, 3 to 6 or 9 to 11, each where its condition says
-pub refused-exactly : (p : List ℕ) (literals : List Float) (room : ℕ) → Verdict p literals room (turning p literals room .number)
-unfolding turning
-refused-exactly p literals room =
-    let W : ℕ → Type 0 = Verdict p literals room in
-    let n : ℕ = countingStep (pathTree p) in
-    let m : ℕ = rowsOf p + 1 in
-    let full : Bool = ltb mostPathRows m || ltb room (5 * m) in
-    let c₁₁ : Answer = check full 11 m (answer 0 m) in
-    let c₁₀ : Answer = check (absolutePath (pathTree p)) 10 0 c₁₁ in
-    let c₉ : Answer = check (ltb 0 n) 9 n c₁₀ in
-    path-cases W p literals c₉ wrong-length bad-literal broken-row too-deep (λ acc good.
-    check-cases W (ltb 0 n) 9 n c₁₀ (λ e. step-counts acc good (ltb-true 0 n e)) (λ e.
-    let z : n ≡ 0 = omega (arith, ltb-false 0 n e) in
-    check-cases W (absolutePath (pathTree p)) 10 0 c₁₁ (absolute acc good z) (λ r.
-    check-cases W full 11 m (answer 0 m)
-    (λ f. no-room acc good z r (or-e (ltb mostPathRows m) (ltb room (5 * m)) (truly f)
-    (λ h. inl (ltb-true mostPathRows m (is-true (ltb mostPathRows m) h)))
-    (λ h. inr (ltb-true room (5 * m) (is-true (ltb room (5 * m)) h)))))
-    (λ f. turns (record {
-      accepted = acc;
-      good = good;
-      none-counts = z;
-      not-absolute = r;
-      few = ltb-false mostPathRows m (or-none-l (ltb mostPathRows m) (ltb room (5 * m)) f);
-      fits = ltb-false room (5 * m) (or-none-r (ltb mostPathRows m) (ltb room (5 * m)) f);
-    })))))
-
-zero-turns : (p : List ℕ) (literals : List Float) (room n : ℕ) → Verdict p literals room n → n ≡ 0 → Turns p literals room
-zero-turns p literals room n (wrong-length a) e = absurd (omega arith)
-zero-turns p literals room n (bad-literal a b) e = absurd (omega arith)
-zero-turns p literals room n (broken-row a b c) e = absurd (omega arith)
-zero-turns p literals room n (too-deep a b c d) e = absurd (omega arith)
-zero-turns p literals room n (step-counts a b c) e = absurd (omega arith)
-zero-turns p literals room n (absolute a b c d) e = absurd (omega arith)
-zero-turns p literals room n (no-room a b c d f) e = absurd (omega arith)
-zero-turns p literals room n (turns t) e = t
+-- turning gives 0 only to such a path
+zero-turns : (p : List ℕ) (literals : List Float) (room : ℕ) {a : Answer} → TurningGives p literals room a → a .number ≡ 0 → Turns p literals room
+zero-turns p literals room (refused r) e = absurd (refused-path r e)
+zero-turns p literals room (step-counts g n) e = absurd (omega arith)
+zero-turns p literals room (absolute g n r) e = absurd (omega arith)
+zero-turns p literals room (no-room g n r f) e = absurd (omega arith)
+zero-turns p literals room (turns h) e = h
 
 first-one : (r : ℕ) (k : Bool) (n : ℕ) → ltb 0 (cond (eqb r 0) (cond k (n + 1) 0) r) ≡ (ltb 0 r || k)
 first-one zero true n = lt-ltb 0 (n + 1) (omega arith)
@@ -245,9 +195,10 @@ relative-is op h k = or-e (eqb (code op) 22) (eqb (code op) 23) (truly h)
 
 module _ (p : List ℕ) (literals : List Float) where
   round-of : (s b : Tree) (c d : ℕ) → pathTree p ≡ node R.relative s b c d → counts s ≡ false → rowsOf p + 1 ≤ mostPathRows
-      → AcceptedPath p (length literals) → GoodLiterals literals → Round p (turnedRows p) literals
-  unfolding turned isPath isAbsolute code pathAnswer selfStep
-  round-of s b c d e none-counts few acc good =
+      → GoodPath p literals → Round p (turnedRows p) literals
+  unfolding turned isPath isAbsolute code selfStep
+  round-of s b c d e none-counts few good =
+      let acc : AcceptedPath p (length literals) = good .0 in
       let E : Tree = node R.relative s b c d in
       let q : List ℕ = written 0 (turned E) in
       let tidy : Tidy E = subst Tidy e (tree-tidy p (rowsOf p)) in
@@ -261,7 +212,7 @@ module _ (p : List ℕ) (literals : List Float) where
       let read : pathTree q ≡ turned E = ap (tree q) (written-rows (turned E)) ∙ written-reads-back (turned E) tidy-q in
       rw e (record {
         fit = fit;
-        answered = accepted-path-answer q literals fit good (answer 0 (rowsOf q)) ∙ ap (answer 0) n;
+        answered = check-path-exactly q literals (answer 0 (rowsOf p + 1)) .1 (inr ((fit, good .1), ap (answer 0) (sym n)));
         one-more = n;
         five-a-row = omega (arith, length-written 0 (turned E));
         read = read ∙ ap turned (sym e);
@@ -272,12 +223,12 @@ module _ (p : List ℕ) (literals : List Float) where
   pub demand-three : (room : ℕ) → turning p literals room .number ≡ 0 → Round p (turnedRows p) literals
   unfolding absolutePath countingStep
   demand-three room given =
-      let h : Turns p literals room = zero-turns p literals room (turning p literals room .number) (refused-exactly p literals room) given in
+      let h : Turns p literals room = zero-turns p literals room (refused-exactly p literals room (turning p literals room) .0 refl) given in
       let r : ℕ = rowsOf p - 1 in
       let s : Tree = tree p (firstLink p r) in
       let b : Tree = tree p (secondLink p r) in
       let e : pathTree p ≡ node (opAt p r) s b (indexOrAxis p r) (testAt p r) =
-      tree-row p (rowsOf p) (λ z. omega (arith, some-path-row p (length literals) (h .accepted))) in
-      let o : opAt p r ≡ R.relative = relative-is (opAt p r) (top-is-path p (length literals) (h .accepted)) (sym (ap absolutePath e) ∙ h .not-absolute) in
+      tree-row p (rowsOf p) (λ z. omega (arith, some-path-row p (length literals) (h .good .0))) in
+      let o : opAt p r ≡ R.relative = relative-is (opAt p r) (top-is-path p (length literals) (h .good .0)) (sym (ap absolutePath e) ∙ h .not-absolute) in
       let k : counts s ≡ false = sym (first-counting s) ∙ ap (ltb 0) (sym (ap countingStep e) ∙ h .none-counts) in
-      round-of s b (indexOrAxis p r) (testAt p r) (e ∙ ap (λ (v : Op). node v s b (indexOrAxis p r) (testAt p r)) o) k (h .few) (h .accepted) (h .good)
+      round-of s b (indexOrAxis p r) (testAt p r) (e ∙ ap (λ (v : Op). node v s b (indexOrAxis p r) (testAt p r)) o) k (h .few) (h .good)

@@ -7,6 +7,7 @@ pub mod Trees
 pub mod Applied
 pub mod Free
 pub mod Turning
+pub mod Exactly
 pub mod Checks
 pub mod Ops
 pub mod Paths

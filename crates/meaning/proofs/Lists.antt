@@ -306,3 +306,22 @@ lowest-at f (suc n) h = go (ltb (lowest f n) n) (f n) refl refl (lowest-at f n) 
     go true c e d r k = r (ltb-true (lowest f n) n e)
     go false true e d r k = d
     go false false e d r k = absurd (omega arith)
+
+-- i is the lowest number below n at which the test holds
+pub record IsLowest (f : ℕ → Bool) (n i : ℕ) : Type 0 where
+  pub below : i < n
+  pub holds : f i ≡ true
+  pub first : (j : ℕ) → j < i → f j ≡ false
+
+-- it is found where there is one
+pub lowest-found : (f : ℕ → Bool) (n : ℕ) → some f (upTo n) ≡ true → IsLowest f n (lowest f n)
+lowest-found f n e =
+    let l : lowest f n < n = ltb-true (lowest f n) n (sym (lowest-some f n) ∙ e) in
+    record { below = l; holds = lowest-at f n l; first = lowest-below f n }
+
+-- and it is the one that is found
+pub found-lowest : {f : ℕ → Bool} {n i : ℕ} → IsLowest f n i → lowest f n ≡ i
+found-lowest {f} {n} {i} l = lowest-is f n i (omega (arith, l .below)) (l .first) (λ _. l .holds)
+
+pub found-some : {f : ℕ → Bool} {n i : ℕ} → IsLowest f n i → some f (upTo n) ≡ true
+found-some {f} {n} {i} l = lowest-some f n ∙ rw (found-lowest l) (lt-ltb i n (l .below))

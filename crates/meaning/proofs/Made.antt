@@ -14,7 +14,8 @@ use Rattle.meaning.specs.Answers.{pathTree}
 use Rattle.meaning.proofs.Trees.{first-le, second-le, tree-zero, tree-suc}
 use Rattle.meaning.proofs.Ops.{op-code, literal-links-nothing, third-links-nothing, fourth-links-nothing, field-by-kind}
 use Rattle.meaning.proofs.ReadBack.{cond-again}
-use Rattle.meaning.proofs.Paths.{AcceptedPath, Holds, known-op, good-fields, row-holds}
+use Rattle.meaning.proofs.Exactly.{AcceptedPath}
+use Rattle.meaning.proofs.Paths.{Holds, known-op, good-fields, row-holds}
 
 -- may a link field of this kind stand for this tree?
 unfoldable pub goodChild : Field → Tree → Bool

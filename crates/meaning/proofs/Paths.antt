@@ -1,4 +1,4 @@
--- Accepted paths: what the checks 3 to 6 say, what a row that is not broken holds, and that an accepted path's tree has all of its rows.
+-- Accepted paths: what a row that is not broken holds, and that an accepted path's tree has all of its rows.
 -- The last: the links that are still open below row m lead to m rows in all; row m closes two and opens one, and at the end only the top is open.
 -- Assumes nothing.
 use Prim.Native.Nat.{ℕ, zero, suc, _+_, _-_, _*_, _%_, _<_, _≤_}
@@ -8,85 +8,20 @@ use mathlib.Core.Bool.{Bool, true, false, _&&_, _||_, not, cond, true≢false}
 use mathlib.Core.List.{List}
 use lib.ListN.{length}
 use lib.Dec.{T, leb, ltb, eqb, eqb→eq, leb→le, ltb→lt}
-use lib.Ieee.{Float}
 use native.Mathlib.Omega.{arith}
 use native.Mathlib.Nat.{eq-or-lt-of-le}
 use native.Mathlib.Numerals.{add-one}
-use borrow.Author.Tests.{le-ltb, ltb-true, ltb-false, not-true, ne-eqb, eq-eqb, lt-ltb}
-use Rattle.meaning.specs.Lists.{upTo, some, lowest}
-use Rattle.meaning.specs.Rows.{Op, Field, opAt, code, field, fieldsOf, isLiteral, isStep, isLink, isUnknown, isPath, mayMiss, takes, goodLink, goodField, goodFields, follow, firstLink, secondLink, links, linkedBelow, linksAgain, misplaced, brokenRow, rowsOf, pathLengthAllowed, mostPathRows, badLiteralAt}
+use borrow.Author.Tests.{ne-eqb, eq-eqb, lt-ltb}
+use Rattle.meaning.specs.Rows.{Op, Field, opAt, code, field, fieldsOf, isLiteral, isStep, isLink, isUnknown, isPath, mayMiss, takes, goodLink, goodField, goodFields, follow, firstLink, secondLink, links, linkedBelow, linksAgain, misplaced, brokenRow, rowsOf, pathLengthAllowed, mostPathRows}
 use Rattle.meaning.specs.Rows as R
-use Rattle.meaning.specs.Tree.{tree, depth, mostDepth, indexOrAxis, testAt}
+use Rattle.meaning.specs.Tree.{tree, indexOrAxis, testAt}
 use Rattle.meaning.specs.Turning.{weight}
-use Rattle.meaning.specs.Answers.{answer, check, pathTree, pathChecks, pathAnswer}
-use Rattle.meaning.specs.declared.Answer.{Answer}
+use Rattle.meaning.specs.Answers.{pathTree}
 use Rattle.meaning.proofs.Bools.{and-l, and-r, truly, is-true, not-false, or-none-l, or-none-r}
-use Rattle.meaning.proofs.Lists.{none-below, below-none, some-last}
+use Rattle.meaning.proofs.Lists.{none-below, some-last}
+use Rattle.meaning.proofs.Exactly.{AcceptedPath}
 use Rattle.meaning.proofs.Trees.{follow-in, first-le, second-le, tree-zero, tree-suc}
 use Rattle.meaning.proofs.Ops.{code-op, literal-is, literal-is-no-step, field-by-kind, first-unused, second-unused, third-unused, fourth-unused}
-
--- ---- the checks
-
--- a path that numbers 3, 5 and 6 don't apply to, beside this many literals
-pub record AcceptedPath (p : List ℕ) (literals : ℕ) : Type 0 where
-  pub allowed : pathLengthAllowed p ≡ true
-  pub whole : (r : ℕ) → r < rowsOf p → brokenRow p literals r ≡ false
-  pub shallow : depth (pathTree p) ≤ mostDepth
-
--- literals that number 4 doesn't apply to
-abbrev pub GoodLiterals : List Float → Type 0
-GoodLiterals literals = some (badLiteralAt literals) (upTo (length literals)) ≡ false
-
--- what is said of a check's number where it applies, and of the number of what follows where it does not, is said of both together
-pub check-cases : (P : ℕ → Type 0) (applies : Bool) (n place : ℕ) (next : Answer) → (applies ≡ true → P n) → (applies ≡ false → P (next .number)) → P (check applies n place next .number)
-check-cases P true n place next f g = f refl
-check-cases P false n place next f g = g refl
-
--- the number that the path's checks give, by what holds of the path; each leaves the ones before it behind
-pub path-cases : (P : ℕ → Type 0) (p : List ℕ) (literals : List Float) (next : Answer)
-    → (pathLengthAllowed p ≡ false → P 3)
-    → (pathLengthAllowed p ≡ true → some (badLiteralAt literals) (upTo (length literals)) ≡ true → P 4)
-    → (pathLengthAllowed p ≡ true → GoodLiterals literals → some (brokenRow p (length literals)) (upTo (rowsOf p)) ≡ true → P 5)
-    → (pathLengthAllowed p ≡ true → GoodLiterals literals → some (brokenRow p (length literals)) (upTo (rowsOf p)) ≡ false → mostDepth < depth (pathTree p) → P 6)
-    → (AcceptedPath p (length literals) → GoodLiterals literals → P (next .number))
-    → P (pathChecks p literals next .number)
-unfolding pathChecks
-path-cases P p literals next three four five six passed =
-    let bad : Bool = some (badLiteralAt literals) (upTo (length literals)) in
-    let broken : Bool = some (brokenRow p (length literals)) (upTo (rowsOf p)) in
-    let deep : Bool = ltb mostDepth (depth (pathTree p)) in
-    let c₆ : Answer = check deep 6 0 next in
-    let c₅ : Answer = check broken 5 (lowest (brokenRow p (length literals)) (rowsOf p)) c₆ in
-    let c₄ : Answer = check bad 4 (lowest (badLiteralAt literals) (length literals)) c₅ in
-    check-cases P (not (pathLengthAllowed p)) 3 0 c₄ (λ e. three (not-true (pathLengthAllowed p) e)) (λ e.
-    let a : pathLengthAllowed p ≡ true = is-true (pathLengthAllowed p) (not-false (pathLengthAllowed p) e) in
-    check-cases P bad 4 (lowest (badLiteralAt literals) (length literals)) c₅ (four a) (λ good.
-    check-cases P broken 5 (lowest (brokenRow p (length literals)) (rowsOf p)) c₆ (five a good) (λ w.
-    check-cases P deep 6 0 next (λ d. six a good w (ltb-true mostDepth (depth (pathTree p)) d)) (λ d.
-    passed
-    (record {
-      allowed = a;
-      whole = below-none (brokenRow p (length literals)) (rowsOf p) w;
-      shallow = ltb-false mostDepth (depth (pathTree p)) d;
-    })
-    good))))
-
--- a path that the path checker gives 0 to is accepted
-pub path-accepted : (p : List ℕ) (literals : List Float) → pathAnswer p literals .number ≡ 0 → AcceptedPath p (length literals) × GoodLiterals literals
-unfolding pathAnswer
-path-accepted p literals =
-    path-cases (λ n. n ≡ 0 → AcceptedPath p (length literals) × GoodLiterals literals) p literals (answer 0 (rowsOf p))
-    (λ a e. absurd (omega arith))
-    (λ a b e. absurd (omega arith))
-    (λ a b c e. absurd (omega arith))
-    (λ a b c d e. absurd (omega arith))
-    (λ acc good e. (acc, good))
-
--- and of an accepted path no check applies
-pub accepted-path-answer : (p : List ℕ) (literals : List Float) → AcceptedPath p (length literals) → GoodLiterals literals → (next : Answer) → pathChecks p literals next ≡ next
-unfolding pathChecks
-accepted-path-answer p literals acc good next =
-    rw (acc .allowed, good, none-below (brokenRow p (length literals)) (rowsOf p) (acc .whole), le-ltb mostDepth (depth (pathTree p)) (acc .shallow))
 
 -- ---- rows of an accepted path
 

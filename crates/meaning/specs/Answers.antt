@@ -3,13 +3,13 @@
 -- Assumes nothing: these are definitions.
 use Prim.Native.Nat.{ℕ, _+_, _*_}
 use mathlib.Core.Bool.{Bool, false, _||_, not, cond}
-use mathlib.Core.List.{List, [], _++_}
+use mathlib.Core.List.{List, _++_}
 use lib.ListN.{length, drop}
 use lib.Dec.{leb, ltb, eqb}
 use lib.Ieee.{Float}
 use Rattle.meaning.specs.Lists.{upTo, some, lowest}
 use Rattle.meaning.specs.Table.{rows, lengthAllowed, broken}
-use Rattle.meaning.specs.Rows.{Op, opAt, rowsOf, pathLengthAllowed, mostPathRows, badLiteralAt, brokenRow}
+use Rattle.meaning.specs.Rows.{rowsOf, pathLengthAllowed, mostPathRows, badLiteralAt, brokenRow}
 use Rattle.meaning.specs.Tree.{Tree, none, node, tree, depth, mostDepth}
 use Rattle.meaning.specs.Meaning.{select, isAbsolute}
 use Rattle.meaning.specs.Turning.{firstCounting, turned, written}

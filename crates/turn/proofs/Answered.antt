@@ -10,7 +10,7 @@ use lib.Seq.{sets}
 use lib.Ieee.{Float}
 use native.Mathlib.Omega.{arith}
 use borrow.Author.Tests.{ltb-false, lt-ltb, le-ltb, eq-eqb, ne-eqb}
-use Rattle.meaning.specs.Rows.{opOf, opAt, field, code, isLiteral, fieldsOf, isLink, firstLink, secondLink, brokenRow, rowsOf, mostPathRows}
+use Rattle.meaning.specs.Rows.{opOf, opAt, field, code, isLiteral, fieldsOf, isLink, firstLink, secondLink, rowsOf, mostPathRows}
 use Rattle.meaning.specs.Rows as R
 use Rattle.meaning.specs.Tree.{none, node, tree, indexOrAxis, testAt}
 use Rattle.meaning.specs.Meaning.{isAbsolute}
@@ -18,11 +18,11 @@ use Rattle.meaning.specs.Turning.{firstCounting, turned, weight, link, row, wri
 use Rattle.meaning.specs.Answers.{answer, pathTree, pathAnswer, output, countingStep, absolutePath, turning, turnedRows, turnedOutput}
 use Rattle.meaning.specs.declared.Answer.{Answer}
 use Rattle.meaning.proofs.Bools.{or-none-l, or-none-r}
-use Rattle.meaning.proofs.Lists.{below-none}
 use Rattle.meaning.proofs.Decoding.{op-is}
 use Rattle.meaning.proofs.Trees.{first-le, tree-zero, tree-row}
-use Rattle.meaning.proofs.Checks.{path-passes, path-stops}
-use Rattle.meaning.proofs.Paths.{AcceptedPath, path-accepted, some-path-row, few-path-rows, top-is-path, all-rows}
+use Rattle.meaning.proofs.Exactly.{AcceptedPath}
+use Rattle.meaning.proofs.Checks.{path-accepted, path-passes, path-stops}
+use Rattle.meaning.proofs.Paths.{some-path-row, few-path-rows, top-is-path, all-rows}
 use Rattle.meaning.proofs.ReadBack.{length-written, link-zero}
 use Rattle.meaning.proofs.Demand.{relative-is}
 use Rattle.meaning.proofs.Written.{sets-behind, sets-front}

@@ -22,7 +22,7 @@ ghost use lib.ListN.{length, drop, set};
 ghost use lib.Seq.{sets};
 ghost use Rattle.meaning.specs.Rows.{opOf, opAt, code};
 ghost use Rattle.meaning.specs.Tree.{tree, indexOrAxis, testAt};
-ghost use Rattle.meaning.specs.Turning.{steps, firstCounting, predicates, test, weight, link, written};
+ghost use Rattle.meaning.specs.Turning.{steps, firstCounting, predicates, test, weight, written};
 ghost use Rattle.meaning.specs.Turning as turn_specs;
 ghost use Rattle.meaning.specs.Answers.{turning, turnedRows, turnedOutput};
 ghost use Rattle.turn.specs.Parts.{Room, Turnable, stepRows, chain};
