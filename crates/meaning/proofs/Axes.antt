@@ -14,10 +14,23 @@ use Rattle.meaning.specs.Lists.{has}
 use Rattle.meaning.specs.Table.{parentOf, rows, end, accepted}
 use Rattle.meaning.specs.Axis.{Axis, Test, inside, on, passes, isReverse, ordered, candidates}
 use Rattle.meaning.specs.Axis as A
-use Rattle.meaning.specs.Turning.{inverse}
 use Rattle.meaning.proofs.Bools.{and-l, and-r, and-i, or-e, or-i-l, or-i-r, eqb-sym, eq→eqb, same, lt-or-ge}
 use Rattle.meaning.proofs.Lists.{Monotone, has-keep-to, has-keep-from, has-order-to, has-order-from, keep-monotone, order-monotone}
 use Rattle.meaning.proofs.Tables.{Child, child, nest}
+
+-- the inverse of an axis
+unfoldable pub inverse : Axis → Axis
+inverse A.self = A.self
+inverse A.child = A.parent
+inverse A.parent = A.child
+inverse A.descendant = A.ancestor
+inverse A.ancestor = A.descendant
+inverse A.descendant-or-self = A.ancestor-or-self
+inverse A.ancestor-or-self = A.descendant-or-self
+inverse A.following = A.preceding
+inverse A.preceding = A.following
+inverse A.following-sibling = A.preceding-sibling
+inverse A.preceding-sibling = A.following-sibling
 
 -- y lies on an axis of x exactly when x lies on the inverse axis of y
 pub inverse-axis : (t : List ℕ) (a : Axis) (x y : ℕ) → on t a x y ≡ on t (inverse a) y x

@@ -90,10 +90,5 @@ eq-or-ne a b = by (eqb a b) refl
     by true e = inl (eqb-true a b e)
     by false e = inr (eqb-false a b e)
 
--- a Bool is one or the other
-pub either : (b : Bool) → (b ≡ true) ⊎ (b ≡ false)
-either true = inl refl
-either false = inr refl
-
 -- a goal that is a test from a fact, and a fact from a test
 pub ruleset tests = (ltb→lt, leb→le, eqb→eq, nleb→lt, nltb→le, lt→ltb, le→leb, eq→eqb)

@@ -3,7 +3,7 @@
 use Prim.Native.Nat.{ℕ, zero, suc, _-_, _<_, _≤_}
 use mathlib.Core.Path.{_≡_, refl, sym, ap, _∙_}
 use mathlib.Core.Logic.{inl, inr}
-use mathlib.Core.Bool.{Bool, true, false, _&&_, _||_, not, true≢false}
+use mathlib.Core.Bool.{Bool, true, false, _&&_, not, true≢false}
 use mathlib.Core.List.{List}
 use lib.ListN.{length, getD}
 use lib.Dec.{leb, eqb}
@@ -20,16 +20,12 @@ use Rattle.meaning.specs.declared.Value.{Value}
 use Rattle.meaning.specs.declared.Value.the-variants.{Truth}
 use Rattle.meaning.specs.declared.Context.{Context}
 use Rattle.meaning.proofs.Bools.{eq-or-ne}
-use Rattle.meaning.proofs.Decoding.{agree, op-is, op-past, past}
+use Rattle.meaning.proofs.Decoding.{agree, op-past, past}
 use Rattle.meaning.proofs.Trees.{tree-zero, tree-row}
 use Rattle.meaning.proofs.Applied.{takesFirst, takesSecond, second-first, operands-no-path, applied-agrees, decides, decided}
 use Rattle.meaning.proofs.Marks.{listed, listed-none}
 
 -- ---- ops by their numbers
-
-pub over-path-ops : (n : ℕ) → overPath (opOf n) ≡ (eqb n 20 || eqb n 21)
-unfolding overPath
-over-path-ops n = rw (op-is 20 n (omega arith) (omega arith), op-is 21 n (omega arith) (omega arith))
 
 pub takes-first-ops : (n : ℕ) → takesFirst (opOf n) ≡ (leb 4 n && leb n 19)
 unfolding opOf code takesFirst some upTo

@@ -66,11 +66,7 @@ code-op n h = elim (lt-or-ge n 26) [
   | inr l ↦ absurd (true≢false (ap isUnknown (sym (op-past n l)) ∙ h))
 ]
 
--- the op of a number
-pub literal-is : (op : Op) → isLiteral op ≡ true → op ≡ R.literal
-unfolding opOf isLiteral
-literal-is op h = sym (op-code op) ∙ ap opOf (eqb-true (code op) 1 h)
-
+-- the op of a step
 pub step-is : (op : Op) → isStep op ≡ true → op ≡ R.step
 unfolding opOf isStep
 step-is op h = sym (op-code op) ∙ ap opOf (eqb-true (code op) 24 h)

@@ -1,18 +1,17 @@
 -- Accepted paths: what a row that is not broken holds, and that an accepted path's tree has all of its rows.
 -- The last: the links that are still open below row m lead to m rows in all; row m closes two and opens one, and at the end only the top is open.
 -- Assumes nothing.
-use Prim.Native.Nat.{ℕ, zero, suc, _+_, _-_, _*_, _%_, _<_, _≤_}
-use mathlib.Core.Path.{_≡_, refl, sym, subst, ap}
+use Prim.Native.Nat.{ℕ, zero, suc, _+_, _-_, _<_, _≤_}
+use mathlib.Core.Path.{_≡_, refl, sym, ap}
 use mathlib.Core.Logic.{_⊎_, inl, inr}
 use mathlib.Core.Bool.{Bool, true, false, _&&_, _||_, not, cond, true≢false}
 use mathlib.Core.List.{List}
-use lib.ListN.{length}
-use lib.Dec.{T, leb, ltb, eqb, eqb→eq, leb→le, ltb→lt}
+use lib.Dec.{T, leb, ltb, eqb, eqb→eq, leb→le}
 use native.Mathlib.Omega.{arith}
 use native.Mathlib.Nat.{eq-or-lt-of-le}
 use native.Mathlib.Numerals.{add-one}
 use borrow.Author.Tests.{ne-eqb, eq-eqb, lt-ltb}
-use Rattle.meaning.specs.Rows.{Op, Field, opAt, code, field, fieldsOf, isLiteral, isStep, isLink, isUnknown, isPath, mayMiss, takes, goodLink, goodField, goodFields, follow, firstLink, secondLink, links, linkedBelow, linksAgain, misplaced, brokenRow, rowsOf, pathLengthAllowed, mostPathRows}
+use Rattle.meaning.specs.Rows.{Op, Field, opAt, code, field, fieldsOf, isLiteral, isStep, isLink, isUnknown, isPath, mayMiss, takes, goodLink, goodField, goodFields, follow, firstLink, secondLink, links, linkedBelow, linksAgain, misplaced, brokenRow, rowsOf, pathLengthAllowed}
 use Rattle.meaning.specs.Rows as R
 use Rattle.meaning.specs.Tree.{tree, indexOrAxis, testAt}
 use Rattle.meaning.specs.Turning.{weight}
@@ -21,7 +20,7 @@ use Rattle.meaning.proofs.Bools.{and-l, and-r, truly, is-true, not-fals
 use Rattle.meaning.proofs.Lists.{none-below, some-last}
 use Rattle.meaning.proofs.Exactly.{AcceptedPath}
 use Rattle.meaning.proofs.Trees.{follow-in, first-le, second-le, tree-zero, tree-suc}
-use Rattle.meaning.proofs.Ops.{code-op, literal-is, literal-is-no-step, field-by-kind, first-unused, second-unused, third-unused, fourth-unused}
+use Rattle.meaning.proofs.Ops.{code-op, literal-is-no-step, field-by-kind, first-unused, second-unused, third-unused, fourth-unused}
 
 -- ---- rows of an accepted path
 
@@ -50,27 +49,13 @@ sorted-le p r f l (inl h) = omega arith
 sorted-le p r f l (inr h) = h .1
 
 module _ (p : List ℕ) (literals : ℕ) (acc : AcceptedPath p literals) where
-  -- 1 to 256 rows of five numbers
+  -- a path has a row
   pub some-path-row : 0 < rowsOf p
   unfolding pathLengthAllowed
   some-path-row =
       let l : T (pathLengthAllowed p) = truly (acc .allowed) in
       let f : T (leb 1 (rowsOf p)) = search (and-l, and-r) in
       omega (arith, leb→le)
-
-  pub few-path-rows : rowsOf p ≤ mostPathRows
-  unfolding pathLengthAllowed
-  few-path-rows =
-      let l : T (pathLengthAllowed p) = truly (acc .allowed) in
-      let f : T (leb (rowsOf p) mostPathRows) = search (and-l, and-r) in
-      leb→le (rowsOf p) mostPathRows f
-
-  pub five-a-row : length p ≡ 5 * rowsOf p
-  unfolding pathLengthAllowed
-  five-a-row =
-      let l : T (pathLengthAllowed p) = truly (acc .allowed) in
-      let f : T (eqb (length p % 5) 0) = search (and-l, and-r) in
-      omega (arith, eqb→eq (length p % 5) 0 f)
 
   module _ (r : ℕ) (below : r < rowsOf p) where
     -- what a row that is not broken keeps: its op, its fields, what it links and its place
@@ -117,13 +102,6 @@ module _ (p : List ℕ) (literals : ℕ) (acc : AcceptedPath p literals) where
     pub second-link-sorted : isLink (fieldsOf (opAt p r) .b) ≡ true → Sorted p r (fieldsOf (opAt p r) .b) (field p r 2)
     second-link-sorted e =
         good-link-sorted p r (fieldsOf (opAt p r) .b) (field p r 2) (rw (field-by-kind, e) at good-b)
-
-    -- a literal's index is below the number of literals
-    pub index-in-range : isLiteral (opAt p r) ≡ true → field p r 1 < literals
-    unfolding goodField fieldsOf
-    index-in-range e =
-        let g : T (goodField p literals r (fieldsOf R.literal .a) (field p r 1)) = subst (λ (o : Op). T (goodField p literals r (fieldsOf o .a) (field p r 1))) (literal-is (opAt p r) e) good-a in
-        ltb→lt (field p r 1) literals g
 
     holds-a : field p r 1 ≡ cond (isLiteral (opAt p r)) (indexOrAxis p r) (firstLink p r)
     unfolding indexOrAxis firstLink

@@ -16,10 +16,10 @@ use Rattle.meaning.specs.Rows.{Op}
 use Rattle.meaning.specs.Rows as R
 use Rattle.meaning.specs.Tree.{Tree, none, node}
 use Rattle.meaning.specs.Meaning.{isAbsolute, startOf, select, walk}
-use Rattle.meaning.specs.Turning.{counting, counts, inverses, inverseOf, inverse, predicates, test, back, turned}
+use Rattle.meaning.specs.Turning.{counting, counts, inverses, inverseOf, predicates, test, back, turned}
 use Rattle.meaning.proofs.Bools.{and-l, and-r, and-i, or-none-l, or-none-r, same, eq→eqb}
 use Rattle.meaning.proofs.Lists.{some-to, some-from, has-keep-to, has-keep-from, has-upTo-to, has-upTo-from}
-use Rattle.meaning.proofs.Axes.{inverse-axis}
+use Rattle.meaning.proofs.Axes.{inverse, inverse-axis}
 use Rattle.meaning.proofs.Free.{ok, fits, free-walk}
 
 -- ---- which steps count

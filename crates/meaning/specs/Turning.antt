@@ -5,8 +5,6 @@ use mathlib.Core.Bool.{Bool, false, _&&_, _||_, not, cond}
 use mathlib.Core.List.{List, [], _∷_, _++_}
 use lib.ListN.{getD}
 use lib.Dec.{eqb}
-use Rattle.meaning.specs.Axis as A
-use Rattle.meaning.specs.Axis.{Axis}
 use Rattle.meaning.specs.Rows.{Op, code, isNumber, isLiteral}
 use Rattle.meaning.specs.Rows as R
 use Rattle.meaning.specs.Tree.{Tree, none, node}
@@ -57,19 +55,6 @@ inverses = 0 ∷ 2 ∷ 1 ∷ 4 ∷ 3 ∷ 6 ∷ 5 ∷ 8 ∷ 7 ∷ 10 ∷ 9 ∷ []
 
 unfoldable pub inverseOf : ℕ → ℕ
 inverseOf n = getD inverses n 0
-
-unfoldable pub inverse : Axis → Axis
-inverse A.self = A.self
-inverse A.child = A.parent
-inverse A.parent = A.child
-inverse A.descendant = A.ancestor
-inverse A.ancestor = A.descendant
-inverse A.descendant-or-self = A.ancestor-or-self
-inverse A.ancestor-or-self = A.descendant-or-self
-inverse A.following = A.preceding
-inverse A.preceding = A.following
-inverse A.following-sibling = A.preceding-sibling
-inverse A.preceding-sibling = A.following-sibling
 
 -- the predicates P and the test t of a chain's last step; before the first step stands node()
 unfoldable pub predicates : Tree → Tree

@@ -21,8 +21,8 @@ use Rattle.meaning.proofs.Bools.{or-none-l, or-none-r}
 use Rattle.meaning.proofs.Decoding.{op-is}
 use Rattle.meaning.proofs.Trees.{first-le, tree-zero, tree-row}
 use Rattle.meaning.proofs.Exactly.{AcceptedPath}
-use Rattle.meaning.proofs.Checks.{path-accepted, path-passes, path-stops}
-use Rattle.meaning.proofs.Paths.{some-path-row, few-path-rows, top-is-path, all-rows}
+use Rattle.meaning.proofs.Checks.{path-accepted, path-passes, path-stops, most-rows}
+use Rattle.meaning.proofs.Paths.{some-path-row, top-is-path, all-rows}
 use Rattle.meaning.proofs.ReadBack.{length-written, link-zero}
 use Rattle.meaning.proofs.Demand.{relative-is}
 use Rattle.meaning.proofs.Written.{sets-behind, sets-front}
@@ -110,7 +110,7 @@ module _ (p : List ℕ) (literals : List Float) (checked : Answer) (is-checked :
 
     -- an accepted path has 1 to 256 rows
     pub rows-there : (0 < rowsOf p) × (rowsOf p ≤ 256)
-    rows-there = (some-path-row p (length literals) accepted, few-path-rows p (length literals) accepted)
+    rows-there = (some-path-row p (length literals) accepted, most-rows p (accepted .allowed))
 
     module _ (n last first op room : ℕ) (is-n : n ≡ rowsOf p) (is-last : last ≡ firstLink p (n - 1)) (is-first : first ≡ firstCounting (tree p last)) (is-op : op ≡ field p (n - 1) 0) where
       steps-link : last ≡ firstLink p (rowsOf p - 1)
