@@ -43,7 +43,7 @@
  *   - Lengths count numbers (uint32_t or double), not rows and not bytes.
  *   - Every pointer must be non-null and aligned for its type, even where its
  *     length is 0 (nothing is then read or written through it).
- *   - What a function writes (out, place, begin, length) must overlap neither
+ *   - What a function writes (out, place, begin, count) must overlap neither
  *     each other nor what it reads (table, path, literals, list).
  *     What it only reads may overlap freely and is never changed.
  *   - Nothing is kept after the call: the caller owns all memory.
@@ -127,14 +127,14 @@ uint32_t bt_turn(const uint32_t *path, size_t path_len,
                  uint32_t *out, size_t out_len, uint32_t *place);
 
 /* The part of an answer that lies in the subtree of one node, without a copy:
- * list[*begin .. *begin + *length - 1] are the entries from node to the last
+ * list[*begin .. *begin + *count - 1] are the entries from node to the last
  * row of its subtree, both included. Both are always written.
- * *length is 0 if there is no such entry, the table is not accepted, node is
+ * *count is 0 if there is no such entry, the table is not accepted, node is
  * not a row, or the list is not strictly ascending with every entry below the
  * row count; *begin then means nothing. */
 void bt_view(const uint32_t *table, size_t table_len,
              const uint32_t *list, size_t list_len,
-             uint32_t node, size_t *begin, size_t *length);
+             uint32_t node, size_t *begin, size_t *count);
 
 #ifdef __cplusplus
 }

@@ -5,15 +5,13 @@ use select::evaluate;
 use table::check::check_table;
 use turn::turn;
 use view::ends_of;
-ghost use mathlib.Core.Path.{_≡_};
-ghost use lib.ListN.{length};
-ghost use Rattle.meaning.specs.Answers.{tableAnswer, pathAnswer, evaluation, evaluated, turning, turnedOutput};
-ghost use Rattle.meaning.specs.View.{partOf};
+ghost use Rattle.meaning.specs.Answers.{answer};
+ghost use Rattle.meaning.specs.View.{partFrom};
+ghost use Rattle.meaning.specs.Promises.{ChecksTable, ChecksPath, EvaluatesPath, TurnsPath, FindsPart};
 
 #[no_mangle]
 pub extern "C" fn bt_check_table(table: &[u32], place: &mut u32) -> u32
-    ensures { λ r. ⌜ r ≡ tableAnswer (now (table .entry)) .number ⌝ }
-    ensures { λ _. ⌜ now (place .exit) ≡ tableAnswer (now (table .entry)) .place ⌝ }
+    ensures { λ r. ⌜ ChecksTable (now (table .entry)) (answer r (now (place .exit))) ⌝ }
 {
     let answer = check_table(table);
     *place = answer.place;
@@ -22,8 +20,7 @@ pub extern "C" fn bt_check_table(table: &[u32], place: &mut u32) -> u32
 
 #[no_mangle]
 pub extern "C" fn bt_check_path(path: &[u32], literals: &[f64], place: &mut u32) -> u32
-    ensures { λ r. ⌜ r ≡ pathAnswer (now (path .entry)) (now (literals .entry)) .number ⌝ }
-    ensures { λ _. ⌜ now (place .exit) ≡ pathAnswer (now (path .entry)) (now (literals .entry)) .place ⌝ }
+    ensures { λ r. ⌜ ChecksPath (now (path .entry)) (now (literals .entry)) (answer r (now (place .exit))) ⌝ }
 {
     let answer = check_path(path, literals);
     *place = answer.place;
@@ -39,9 +36,7 @@ pub extern "C" fn bt_evaluate(
     out: &mut [u32],
     place: &mut u32,
 ) -> u32
-    ensures { λ r. ⌜ r ≡ evaluation (now (table .entry)) (now (path .entry)) (now (literals .entry)) start (length (now (out .entry))) .number ⌝ }
-    ensures { λ _. ⌜ now (place .exit) ≡ evaluation (now (table .entry)) (now (path .entry)) (now (literals .entry)) start (length (now (out .entry))) .place ⌝ }
-    ensures { λ _. ⌜ now (out .exit) ≡ evaluated (now (table .entry)) (now (path .entry)) (now (literals .entry)) start (now (out .entry)) ⌝ }
+    ensures { λ r. ⌜ EvaluatesPath (now (table .entry)) (now (path .entry)) (now (literals .entry)) start (now (out .entry)) (answer r (now (place .exit))) (now (out .exit)) ⌝ }
 {
     let answer = evaluate(table, path, literals, start, out);
     *place = answer.place;
@@ -50,9 +45,7 @@ pub extern "C" fn bt_evaluate(
 
 #[no_mangle]
 pub extern "C" fn bt_turn(path: &[u32], literals: &[f64], out: &mut [u32], place: &mut u32) -> u32
-    ensures { λ r. ⌜ r ≡ turning (now (path .entry)) (now (literals .entry)) (length (now (out .entry))) .number ⌝ }
-    ensures { λ _. ⌜ now (place .exit) ≡ turning (now (path .entry)) (now (literals .entry)) (length (now (out .entry))) .place ⌝ }
-    ensures { λ _. ⌜ now (out .exit) ≡ turnedOutput (now (path .entry)) (now (literals .entry)) (now (out .entry)) ⌝ }
+    ensures { λ r. ⌜ TurnsPath (now (path .entry)) (now (literals .entry)) (now (out .entry)) (answer r (now (place .exit))) (now (out .exit)) ⌝ }
 {
     let answer = turn(path, literals, out);
     *place = answer.place;
@@ -66,12 +59,11 @@ pub extern "C" fn bt_view(
     list: &[u32],
     node: u32,
     begin: &mut usize,
-    length: &mut usize,
+    count: &mut usize,
 )
-    ensures { λ _. ⌜ now (begin .exit) ≡ partOf (now (table .entry)) (now (list .entry)) node .begin ⌝ }
-    ensures { λ _. ⌜ now (length .exit) ≡ partOf (now (table .entry)) (now (list .entry)) node .length ⌝ }
+    ensures { λ _. ⌜ FindsPart (now (table .entry)) (now (list .entry)) node (partFrom (now (begin .exit)) (now (count .exit))) ⌝ }
 {
     let part = ends_of(table, list, node);
     *begin = part.begin;
-    *length = part.length;
+    *count = part.length;
 }

@@ -3,22 +3,22 @@
 use Prim.Native.Nat.{ℕ, _%_, _<_, _≤_}
 use mathlib.Core.Path.{_≡_, sym, ap, _∙_}
 use mathlib.Core.Bool.{_&&_, not}
-use mathlib.Core.List.{List, _++_}
-use lib.ListN.{length, drop}
-use lib.Dec.{leb, ltb, eqb, leb→le}
+use mathlib.Core.List.{List}
+use lib.ListN.{length}
+use lib.Dec.{leb, eqb, leb→le}
 use lib.Ieee.{Float}
 use native.Mathlib.Omega.{arith}
-use borrow.Author.Tests.{le-leb, lt-leb, lt-ltb, le-ltb, ne-eqb}
+use borrow.Author.Tests.{le-leb, lt-leb, ne-eqb}
 use Rattle.meaning.specs.Lists.{upTo, some}
 use Rattle.meaning.specs.Table.{rows, mostRows, lengthAllowed, broken, accepted}
 use Rattle.meaning.specs.Rows.{rowsOf, mostPathRows}
 use Rattle.meaning.specs.Tree.{tree}
 use Rattle.meaning.specs.Meaning.{select}
 use Rattle.meaning.specs.Answers.{answer, check, tableAnswer, pathAnswer, selected, handed, evaluation, output, evaluated}
+use Rattle.meaning.specs.Promises.{EvaluatesPath}
 use Rattle.meaning.specs.declared.Answer.{Answer}
 use Rattle.meaning.proofs.Bools.{and-l, and-r, truly}
-use Rattle.meaning.proofs.Checks.{table-passes, table-stops, table-accepted, path-passes, path-stops, most-rows}
-use Rattle.meaning.proofs.Paths.{path-accepted}
+use Rattle.meaning.proofs.Checks.{table-passes, table-stops, table-accepted, path-accepted, path-passes, path-stops, most-rows}
 
 -- a table whose answer is 0 has at most 4,096 rows, a path whose answer is 0 at most 256
 pub table-fits : (t : List ℕ) → tableAnswer t .number ≡ 0 → rows t ≤ mostRows
@@ -31,20 +31,20 @@ path-fits p literals e = most-rows p (path-accepted p literals e .0 .allowed)
 
 module _ (t p : List ℕ) (literals : List Float) (start : ℕ) (out : List ℕ) where
   -- an answer and an output, as evaluation has them
-  abbrev pub Outcome : Answer → List ℕ → Type 0
-  Outcome a out' = (a ≡ evaluation t p literals start (length out)) × (out' ≡ evaluated t p literals start out)
+  abbrev pub Promised : Answer → List ℕ → Type 0
+  Promised = EvaluatesPath t p literals start out
 
   -- a number that is not 0 leaves the output as it was
-  refused : (a : Answer) → a ≡ evaluation t p literals start (length out) → (a .number ≡ 0 → ⊥) → Outcome a out
+  refused : (a : Answer) → a ≡ evaluation t p literals start (length out) → (a .number ≡ 0 → ⊥) → Promised a out
   unfolding evaluated output
   refused a e f = (e, rw (← e, ne-eqb (a .number) 0 f))
 
-  pub table-refused : (a : Answer) → a ≡ tableAnswer t → (a .number ≡ 0 → ⊥) → Outcome a out
+  pub table-refused : (a : Answer) → a ≡ tableAnswer t → (a .number ≡ 0 → ⊥) → Promised a out
   unfolding evaluation
   table-refused a e f = refused a (e ∙ sym (table-stops t (λ z. f (ap (λ (a : Answer). a .number) e ∙ z)) _)) f
 
   module _ (table-ok : tableAnswer t .number ≡ 0) where
-    pub path-refused : (a : Answer) → a ≡ pathAnswer p literals → (a .number ≡ 0 → ⊥) → Outcome a out
+    pub path-refused : (a : Answer) → a ≡ pathAnswer p literals → (a .number ≡ 0 → ⊥) → Promised a out
     unfolding evaluation
     path-refused a e f = refused a (e ∙ sym (table-passes t table-ok _ ∙ path-stops p literals (λ z. f (ap (λ (a : Answer). a .number) e ∙ z)) _)) f
 
@@ -54,11 +54,11 @@ module _ (t p : List ℕ) (literals : List Float) (start : ℕ) (out : List ℕ)
       accepted-on a e = e ∙ sym (table-passes t table-ok _ ∙ path-passes p literals path-ok _)
 
       -- 7: the start node is not below the row count
-      pub start-refused : (a : Answer) → rows t ≤ start → a ≡ answer 7 start → Outcome a out
+      pub start-refused : (a : Answer) → rows t ≤ start → a ≡ answer 7 start → Promised a out
       start-refused a h e = refused a (accepted-on a (rw (le-leb (rows t) start h) e)) (λ z. absurd (omega (arith, ap (λ (a : Answer). a .number) e)))
 
       -- 8 where more are selected than the output holds; 0 with what is selected at the front, and the rest as it was
-      pub all-handed : start < rows t → (l : ℕ) → l ≡ rowsOf p → (s : List ℕ) → s ≡ select t literals (tree p l) start → (a : Answer) (out' : List ℕ) → a ≡ handed s (length out) → out' ≡ output a s out → Outcome a out'
+      pub all-handed : start < rows t → (l : ℕ) → l ≡ rowsOf p → (s : List ℕ) → s ≡ select t literals (tree p l) start → (a : Answer) (out' : List ℕ) → a ≡ handed s (length out) → out' ≡ output a s out → Promised a out'
       unfolding evaluated
       all-handed below l is-l s is-s a out' e w =
           let all : s ≡ selected t p literals start = is-s ∙ ap (λ (l : ℕ). select t literals (tree p l) start) is-l in

@@ -16,7 +16,8 @@ use native.Mathlib.Numerals.{add-one}
 use borrow.Author.Tests.{le-leb, lt-leb, lt-ltb, le-ltb, leb-true, leb-false, ltb-true, ltb-false, ne-eqb, not-true, not-false}
 use Rattle.meaning.specs.Lists.{upTo, some, keep, lowest}
 use Rattle.meaning.specs.Table.{accepted, rows, end}
-use Rattle.meaning.specs.View.{entryFits, ascending, viewable, begins, ends, viewed, partFrom, partOf, Shows}
+use Rattle.meaning.specs.View.{entryFits, ascending, viewable, begins, ends, viewed, partFrom, partOf}
+use Rattle.meaning.specs.Promises.{ShowsPart}
 use Rattle.meaning.specs.declared.Part.{Part}
 use Rattle.meaning.proofs.Bools.{and-l, and-r, truly, is-true, lt-or-ge}
 use Rattle.meaning.proofs.Lists.{Before, Monotone, Rising, some-from, has-upTo-from, none-below, below-none, keep-append, keep-none, keep-each, lowest-le, lowest-is, lowest-below, lowest-at}
@@ -256,7 +257,7 @@ module _ (t l : List ℕ) (v : ℕ) where
 -- the slice from one end to the other shows the part
 pub part-shows : (t : List ℕ) (l r : RefT (List ℕ)) (v : ℕ) (p : Part) → p ≡ partOf t (l .now) v
     → r .now ≡ take (p .begin + p .length - p .begin) (drop (p .begin) (l .now))
-    → r .ptr .0 ≡ l .ptr .0 → r .ptr .1 ≡ p .begin * 4 + l .ptr .1 → Shows t l v r
+    → r .ptr .0 ≡ l .ptr .0 → r .ptr .1 ≡ p .begin * 4 + l .ptr .1 → ShowsPart t l v r
 part-shows t l r v p e n b o =
     let k : Cuts (l .now) (viewed t (l .now) v) (begins (l .now) v) p = part-cuts t (l .now) v p e in
     let q : r .now ≡ viewed t (l .now) v = n ∙ ap (λ m. take m (drop (p .begin) (l .now))) (add-sub-cancel-left (p .begin) (p .length)) ∙ k .entries in

@@ -7,4 +7,5 @@ pub mod Meaning
 pub mod Turning
 pub mod View
 pub mod Answers
+pub mod Promises
 pub mod Cases

@@ -1,12 +1,10 @@
 -- The subtree view (document 01, "Numbers given back"): the entries from v to v + size(v), as a part of the caller's list.
 -- Assumes nothing: these are definitions.
-use Prim.Native.Nat.{ℕ, _+_, _-_, _*_, _<_}
-use mathlib.Core.Path.{_≡_}
+use Prim.Native.Nat.{ℕ, _-_}
 use mathlib.Core.Bool.{Bool, _&&_, _||_, not, cond}
 use mathlib.Core.List.{List, []}
 use lib.ListN.{length, getD, take, drop}
 use lib.Dec.{leb, ltb, eqb}
-use denote.Ref.{RefT}
 use Rattle.meaning.specs.Lists.{upTo, some, lowest}
 use Rattle.meaning.specs.Table.{accepted, rows, end}
 use Rattle.meaning.specs.declared.Part.{Part}
@@ -42,10 +40,3 @@ partFrom b n = record { begin = b; length = n }
 -- where the part begins and how many entries it has: 0 and 0 for an empty one
 unfoldable pub partOf : List ℕ → List ℕ → ℕ → Part
 partOf t l v = cond (viewable t l v && ltb (begins l v) (ends t l v)) (partFrom (begins l v) (ends t l v - begins l v)) (partFrom 0 0)
-
--- the slice r shows the part of the slice l: it holds its entries and, where there are some, it points into l, past the
--- entries before the part, which have 4 bytes each
-pub record Shows (t : List ℕ) (l : RefT (List ℕ)) (v : ℕ) (r : RefT (List ℕ)) : Type 0 where
-  pub entries : r .now ≡ viewed t (l .now) v
-  pub block : 0 < length (r .now) → r .ptr .0 ≡ l .ptr .0
-  pub offset : 0 < length (r .now) → r .ptr .1 ≡ l .ptr .1 + 4 * begins (l .now) v

@@ -19,7 +19,7 @@ ghost use mathlib.Core.Bool.{false};
 ghost use Rattle.meaning.specs.Lists.{lowest};
 ghost use Rattle.meaning.specs.Rows.{rowsOf, pathLengthAllowed, badLiteral, badLiteralAt, linksAgain, misplaced, brokenRow};
 ghost use Rattle.meaning.specs.Tree.{tree, depth};
-ghost use Rattle.meaning.specs.Answers.{pathAnswer};
+ghost use Rattle.meaning.specs.Promises.{ChecksPath};
 ghost use Rattle.path.specs.Passes.{Marks, Depths};
 
 const MOST_ROWS: usize = 256;
@@ -201,7 +201,7 @@ fn depth_of(path: &[u32]) -> usize
 }
 
 pub fn check_path(path: &[u32], literals: &[f64]) -> Answer
-    ensures { λ r. ⌜ r ≡ pathAnswer (now (path .entry)) (now (literals .entry)) ⌝ }
+    ensures { λ r. ⌜ ChecksPath (now (path .entry)) (now (literals .entry)) r ⌝ }
 {
     if !is_length_allowed(path) {
         return Answer {

@@ -13,8 +13,8 @@ use table::check::check_table;
 use table::row_count;
 ghost use mathlib.Core.Path.{_≡_};
 ghost use Prim.Native.Nat.{_<_};
-ghost use lib.ListN.{length};
-ghost use Rattle.meaning.specs.Answers.{tableAnswer, pathAnswer, evaluation, evaluated};
+ghost use Rattle.meaning.specs.Answers.{tableAnswer, pathAnswer};
+ghost use Rattle.meaning.specs.Promises.{EvaluatesPath};
 
 // Evaluation of a path and on a table that are accepted: 7 for a start node that is none, 8 where out has no room, 0 with what is
 // selected at the front of out.
@@ -26,7 +26,7 @@ fn evaluate_accepted(
     out: &mut [u32],
 ) -> Answer
     requires { ⌜ (start < 4294967296) × (tableAnswer (now table) .number ≡ 0) × (pathAnswer (now path) (now literals) .number ≡ 0) ⌝ }
-    ensures { λ r. ⌜ (r ≡ evaluation (now (table .entry)) (now (path .entry)) (now (literals .entry)) start (length (now (out .entry)))) × (now (out .exit) ≡ evaluated (now (table .entry)) (now (path .entry)) (now (literals .entry)) start (now (out .entry))) ⌝ }
+    ensures { λ r. ⌜ EvaluatesPath (now (table .entry)) (now (path .entry)) (now (literals .entry)) start (now (out .entry)) r (now (out .exit)) ⌝ }
 {
     if row_count(table) <= start {
         return given(7, start);
@@ -53,7 +53,7 @@ pub fn evaluate(
     start: u32,
     out: &mut [u32],
 ) -> Answer
-    ensures { λ r. ⌜ (r ≡ evaluation (now (table .entry)) (now (path .entry)) (now (literals .entry)) start (length (now (out .entry)))) × (now (out .exit) ≡ evaluated (now (table .entry)) (now (path .entry)) (now (literals .entry)) start (now (out .entry))) ⌝ }
+    ensures { λ r. ⌜ EvaluatesPath (now (table .entry)) (now (path .entry)) (now (literals .entry)) start (now (out .entry)) r (now (out .exit)) ⌝ }
 {
     let of_table = check_table(table);
     if of_table.number != 0 {

@@ -11,7 +11,8 @@ use basics::wide;
 ghost use mathlib.Core.Path.{_≡_};
 ghost use Prim.Native.Nat.{_-_, _<_};
 ghost use Rattle.meaning.specs.Table.{rows, parentOf, end};
-ghost use Rattle.meaning.specs.Axis.{inside, on, onAxis, axisOf, passes, testOf, isReverse};
+ghost use Rattle.meaning.specs.Axis.{inside, on, axisOf, passes, testOf, isReverse};
+ghost use Rattle.meaning.specs.Promises.{AnswersAxis};
 ghost use Rattle.meaning.specs.Axis.Axis.{child, following, following-sibling};
 
 // The parent of any number, and the end of its subtree: of no row both read 0 for what is stored.
@@ -84,7 +85,7 @@ pub fn holds(table: &[u32], axis: usize, x: usize, y: usize) -> bool
 
 // Is node y on the axis with this number of node x? Any numbers may be asked.
 pub fn on_axis(table: &[u32], axis: u32, x: u32, y: u32) -> bool
-    ensures { λ r. ⌜ r ≡ onAxis (now (table .entry)) axis x y ⌝ }
+    ensures { λ r. ⌜ AnswersAxis (now (table .entry)) axis x y r ⌝ }
 {
     let n = wide(axis);
     both(at_most(n, 10), holds(table, n, wide(x), wide(y)))

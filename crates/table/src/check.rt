@@ -17,7 +17,7 @@ ghost use mathlib.Core.Bool.{true};
 ghost use Prim.Native.Nat.{_+_, _<_, _≤_};
 ghost use Rattle.meaning.specs.Lists.{lowest};
 ghost use Rattle.meaning.specs.Table.{rows, mostRows, lengthAllowed, goodRoot, goodName, goodRow, broken};
-ghost use Rattle.meaning.specs.Answers.{tableAnswer};
+ghost use Rattle.meaning.specs.Promises.{ChecksTable};
 ghost use Rattle.table.specs.Next.{goodNumbers, Next, Looked};
 
 // 1 to 4,096 rows, and a multiple of 4.
@@ -108,7 +108,7 @@ fn lowest_broken_row(table: &[u32]) -> usize
 
 // 1 for a length that is not allowed, 2 with the lowest broken row, 0 with the row count.
 pub fn check_table(table: &[u32]) -> Answer
-    ensures { λ r. ⌜ r ≡ tableAnswer (now (table .entry)) ⌝ }
+    ensures { λ r. ⌜ ChecksTable (now (table .entry)) r ⌝ }
 {
     if !length_allowed(table) {
         return given(1, 0);

@@ -16,6 +16,7 @@ use Rattle.meaning.specs.Tree.{none, node, tree, indexOrAxis, testAt}
 use Rattle.meaning.specs.Meaning.{isAbsolute}
 use Rattle.meaning.specs.Turning.{firstCounting, turned, weight, link, row, written}
 use Rattle.meaning.specs.Answers.{answer, pathTree, pathAnswer, output, countingStep, absolutePath, turning, turnedRows, turnedOutput}
+use Rattle.meaning.specs.Promises.{TurnsPath}
 use Rattle.meaning.specs.declared.Answer.{Answer}
 use Rattle.meaning.proofs.Bools.{or-none-l, or-none-r}
 use Rattle.meaning.proofs.Decoding.{op-is}
@@ -80,18 +81,18 @@ module _ (p : List ℕ) (n last : ℕ) (is-n : n ≡ rowsOf p) (is-last : last �
 
 module _ (p : List ℕ) (literals : List Float) (out : List ℕ) where
   -- a number other than 0 leaves the output as it is
-  pub kept : (a : Answer) → a ≡ turning p literals (length out) → (a .number ≡ 0 → ⊥) → (a ≡ turning p literals (length out)) × (out ≡ turnedOutput p literals out)
+  pub kept : (a : Answer) → a ≡ turning p literals (length out) → (a .number ≡ 0 → ⊥) → TurnsPath p literals out a out
   unfolding turnedOutput output
   kept a e f = (e, rw (← e, ne-eqb (a .number) 0 f))
 
   -- the same of an answer by its number and place
   pub refused : (a : Answer) (k place : ℕ) → a ≡ answer k place → answer k place ≡ turning p literals (length out) → 0 < k
-      → (a ≡ turning p literals (length out)) × (out ≡ turnedOutput p literals out)
+      → TurnsPath p literals out a out
   refused a k place e f h = kept a (e ∙ f) (λ z. omega (arith, ap (λ (a : Answer). a .number) e))
 
   -- on 0 the rows stand at the front
   pub turned-round : (a : Answer) (place : ℕ) (z : List ℕ) → a ≡ answer 0 place → answer 0 place ≡ turning p literals (length out) → z ≡ turnedRows p ++ drop (length (turnedRows p)) out
-      → (a ≡ turning p literals (length out)) × (z ≡ turnedOutput p literals out)
+      → TurnsPath p literals out a z
   unfolding turnedOutput output
   turned-round a place z e f g = (e ∙ f, rw (← f) g)
 

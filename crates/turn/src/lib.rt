@@ -24,7 +24,8 @@ ghost use Rattle.meaning.specs.Rows.{opOf, opAt, code};
 ghost use Rattle.meaning.specs.Tree.{tree, indexOrAxis, testAt};
 ghost use Rattle.meaning.specs.Turning.{steps, firstCounting, predicates, test, weight, written};
 ghost use Rattle.meaning.specs.Turning as turn_specs;
-ghost use Rattle.meaning.specs.Answers.{turning, turnedRows, turnedOutput};
+ghost use Rattle.meaning.specs.Answers.{turnedRows};
+ghost use Rattle.meaning.specs.Promises.{TurnsPath};
 ghost use Rattle.turn.specs.Parts.{Room, Turnable, stepRows, chain};
 
 const MOST_ROWS: usize = 256;
@@ -209,7 +210,7 @@ fn write_turned(path: &[u32], out: &mut [u32])
 
 // Turns an accepted relative path none of whose steps counts. A refusal leaves the output as it is.
 pub fn turn(path: &[u32], literals: &[f64], out: &mut [u32]) -> Answer
-    ensures { λ r. ⌜ (r ≡ turning (now (path .entry)) (now (literals .entry)) (length (now (out .entry)))) × (now (out .exit) ≡ turnedOutput (now (path .entry)) (now (literals .entry)) (now (out .entry))) ⌝ }
+    ensures { λ r. ⌜ TurnsPath (now (path .entry)) (now (literals .entry)) (now (out .entry)) r (now (out .exit)) ⌝ }
 {
     let checked = check_path(path, literals);
     if checked.number != 0 {

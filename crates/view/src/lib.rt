@@ -9,7 +9,8 @@ use table::check::check_table;
 use table::end_at;
 use table::row_count;
 ghost use mathlib.Core.Path.{_≡_};
-ghost use Rattle.meaning.specs.View.{entryFits, ascending, viewable, begins, partOf, Shows};
+ghost use Rattle.meaning.specs.View.{entryFits, ascending, viewable, begins};
+ghost use Rattle.meaning.specs.Promises.{FindsPart, ShowsPart};
 ghost use Rattle.meaning.proofs.Lists.{Rising};
 
 // Is entry i the first, or above the entry before it, and below the row count?
@@ -72,7 +73,7 @@ fn lower_bound(list: &[u32], v: usize) -> usize
 
 // Where the part begins and how many entries it has: 0 and 0 for an empty one.
 pub fn ends_of(table: &[u32], list: &[u32], node: u32) -> Part
-    ensures { λ r. ⌜ r ≡ partOf (now (table .entry)) (now (list .entry)) node ⌝ }
+    ensures { λ r. ⌜ FindsPart (now (table .entry)) (now (list .entry)) node r ⌝ }
 {
     let v = wide(node);
     if !is_viewable(table, list, v) {
@@ -98,7 +99,7 @@ pub fn ends_of(table: &[u32], list: &[u32], node: u32) -> Part
 
 // The part itself, no copy: empty if the table is not accepted, the node is outside or the list is not as said.
 pub fn view<'a, 'b>(table: &'a [u32], list: &'b [u32], node: u32) -> &'b [u32]
-    ensures { λ r. ⌜ Shows (now (table .entry)) (list .entry) node r ⌝ }
+    ensures { λ r. ⌜ ShowsPart (now (table .entry)) (list .entry) node r ⌝ }
 {
     let part = ends_of(table, list, node);
     let begin = part.begin;
