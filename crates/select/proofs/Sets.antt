@@ -24,12 +24,13 @@ use Rattle.meaning.proofs.Marks.{listed, listed-by}
 use Rattle.meaning.proofs.Evaluation.{stepTo}
 use Rattle.meaning.proofs.Free.{true-at, ok, fits, free-step}
 use Rattle.meaning.proofs.Backward.{before, backs, before-by, ok-none, ok-row, pair-row, not-row, exists-row, relative-row, absolute-row}
-use Rattle.meaning.proofs.Near.{ahead, Covers, covers-agree, covers-all, covers-more, near-agree, near-backs, ahead-none, covers-none, ahead-row, covers-row, near-none, near-row}
+use Rattle.meaning.proofs.Near.{covers-all, near-agree, near-backs, near-none, near-row}
 use Rattle.reach.specs.Reach.{hit, Hits}
-use Rattle.sieve.specs.Sieve.{state, Recast, Exchanged, Sieved, Bounded, Retained}
+use Rattle.sieve.specs.Sieve.{state, Recast, Lowered, Exchanged, Sieved, Bounded, Retained}
 use Rattle.sieve.proofs.Sieves.{sieved-agree, sieved-bounded, recast-bounded, pair-sieved, not-sieved, thinned-state, thinned-bounded, settled-marks, settled-bounded, retained-marks}
-use Rattle.marks.specs.Sets.{Sifted, Met, Joined}
-use Rattle.select.specs.Sets.{Narrowed, Thinned, LedBy, Led, Covered}
+use Rattle.cover.specs.Covered.{CoversActive}
+use Rattle.marks.specs.Sets.{Sifted, Met}
+use Rattle.select.specs.Sets.{Narrowed, Thinned, LedBy, Led}
 
 module _ (t : List ℕ) (literals : List Float) where
   -- the rows that pass a test and the predicates behind it
@@ -108,56 +109,20 @@ module _ (t : List ℕ) (literals : List Float) (p : List ℕ) (l : ℕ) where
         ∙ near-agree t literals (λ z. getD near z false) (tree p a) (λ z. getD mid z false) (before t literals c d (tree p b) (λ z. getD entry z false && getD near z false)) h y m
         ∙ near-row t literals p l (λ z. getD near z false) some-row a b c d is-first is-second e f (λ z. getD entry z false) y
 
--- ---- what a chain of steps may come by
-
-module _ (t p : List ℕ) (l : ℕ) where
-  -- no steps: the set itself, and nothing on the way
-  pub covered-none : (marks near : List Bool) → l ≡ 0 → Covered t (tree p l) marks marks near near
-  covered-none marks near e = record {
-    reached = λ y k. ahead-none t p l (λ x. getD marks x false) y e;
-    kept = λ y k h. h;
-    covers = covers-none t p l (λ y. getD near y false) (λ x. getD marks x false) e;
-  }
-
-  -- those before it, then its axis and its test; what they reach is near too
-  pub covered-row : (some-row : (l ≡ 0) → ⊥) (a c d : ℕ) → a ≡ firstLink p (l - 1) → c ≡ indexOrAxis p (l - 1) → d ≡ testAt p (l - 1) → (entry mid hits exit before between after : List Bool)
-      → Covered t (tree p a) entry mid before between → Hits t (axisOf c) mid hits → Sifted t d hits exit → Joined t exit between after → Covered t (tree p l) entry exit before after
-  unfolding Hits hit Sifted Joined
-  covered-row some-row a c d is-first e f entry mid hits exit before between after first h s j = record { reached = marked; kept = λ y k r. more y k (first .kept y k r); covers = near }
-    where
-      from : ℕ → Bool
-      from = λ x. getD entry x false
-
-      marked : (y : ℕ) → y < rows t → getD exit y false ≡ ahead t (tree p l) from y
-      marked y k =
-          s y k
-          ∙ rw (h y k, some-below (λ x. getD mid x false && on t (axisOf c) x y) (λ x. ahead t (tree p a) from x && on t (axisOf c) x y) (rows t) (λ x m. rw (first .reached x m))) (ahead-row t p l some-row a is-first c d e f from y)
-
-      more : (y : ℕ) → y < rows t → getD between y false ≡ true → getD after y false ≡ true
-      more y k r = j y k ∙ rw r
-
-      near : Covers t (λ y. getD after y false) (tree p l) from
-      near = covers-row t p l some-row a is-first (λ y. getD after y false) from (covers-more t (tree p a) (λ y. getD between y false) (λ y. getD after y false) from (first .covers) more)
-          (λ y k r. j y k ∙ rw (marked y k, r) (or-true (getD between y false)))
-
 -- ---- whether a chain of steps leads anywhere, decided for all rows
 
 module _ (t : List ℕ) (literals : List Float) (s : Tree) (n active : ℕ) (entry exit : List ℕ) (near full marks : List Bool) (all : n ≡ rows t) (is-full : (y : ℕ) → y < rows t → getD full y false ≡ true)
     (led : Led t literals near s full marks) (settled : Sieved (λ y. getD marks y false) active n entry exit) where
   -- backwards from all rows, over what is near, where that covers what the chain may come by from the active rows
-  back-decided : Covers t (λ y. getD near y false) s (λ x. eqb (state entry x) active) → Sieved (backs t literals s (λ z. true)) active (rows t) entry exit
-  unfolding Led
-  back-decided c = sieved-agree active (rows t) entry exit (λ y. getD marks y false) (backs t literals s (λ z. true)) (rw all at settled)
+  pub near-decided : CoversActive t s active entry near → Sieved (backs t literals s (λ z. true)) active (rows t) entry exit
+  unfolding Led CoversActive
+  near-decided c = sieved-agree active (rows t) entry exit (λ y. getD marks y false) (backs t literals s (λ z. true)) (rw all at settled)
       (λ y k i. led y k ∙ near-backs t literals s (λ y. getD near y false) (λ x. eqb (state entry x) active) c (λ z. getD full z false) (λ z. true) (λ z m h. is-full z m) y k (eq-eqb (state entry y) active i))
 
   -- all rows are near
   pub all-decided : ((y : ℕ) → y < rows t → getD near y false ≡ true) → Sieved (backs t literals s (λ z. true)) active (rows t) entry exit
-  all-decided h = back-decided (covers-all t s (λ y. getD near y false) (λ x. eqb (state entry x) active) h)
-
-  -- what the chain may come by from the active rows is near
-  pub near-decided : (reached ahead before : List Bool) → Retained n active entry full reached → Covered t s reached ahead before near → Sieved (backs t literals s (λ z. true)) active (rows t) entry exit
-  unfolding Retained
-  near-decided reached ahead before r c = back-decided (covers-agree t s (λ y. getD near y false) (λ x. getD reached x false) (λ x. eqb (state entry x) active) (λ x k. r x (rw all k) ∙ rw (is-full x k)) (c .covers))
+  unfolding CoversActive
+  all-decided h = near-decided (covers-all t s (λ y. getD near y false) (λ x. eqb (state entry x) active) h)
 
 -- ---- the existence of what a path selects, decided for all rows
 
@@ -177,16 +142,16 @@ module _ (t : List ℕ) (literals : List Float) (p : List ℕ) (l : ℕ) (some-r
 
 module _ (t : List ℕ) (literals : List Float) (p : List ℕ) (l : ℕ) (some-row : (l ≡ 0) → ⊥) (a : ℕ) (is-first : a ≡ firstLink p (l - 1)) (active n : ℕ) (entry decided : List ℕ) (all : n ≡ rows t)
     (low : Bounded (rows t) active entry) (first : Sieved (true-at t literals (tree p a)) active (rows t) entry decided) where
-  module _ (any : Bool) (from : ℕ) (op : field p (l - 1) 0 ≡ cond any 17 16) (is-from : from ≡ cond any (active + 1) active) (raised : List ℕ) (up : Recast n from (active + 2) decided raised) where
+  module _ (any : Bool) (op : field p (l - 1) 0 ≡ cond any 17 16) (raised : List ℕ) (up : Recast n (cond any (active + 1) active) (active + 2) decided raised) where
     -- what is raised for the second operand is the highest
     pub raised-low : Bounded (rows t) (active + 2) raised
-    raised-low = recast-bounded (rows t) decided raised from (active + 2) (active + 1) (active + 2) (rw all at up) (sieved-bounded (rows t) entry decided (true-at t literals (tree p a)) active first low) (omega arith) (omega arith)
+    raised-low = recast-bounded (rows t) decided raised (cond any (active + 1) active) (active + 2) (active + 1) (active + 2) (rw all at up) (sieved-bounded (rows t) entry decided (true-at t literals (tree p a)) active first low) (omega arith) (omega arith)
 
     -- an or where any, else an and
-    pub pair-decided : (b : ℕ) → b ≡ secondLink p (l - 1) → (both back exit : List ℕ) → Sieved (true-at t literals (tree p b)) (active + 2) (rows t) raised both → Recast n (active + 2) active both back → Recast n (active + 3) (active + 1) back exit
+    pub pair-decided : (b : ℕ) → b ≡ secondLink p (l - 1) → (both exit : List ℕ) → Sieved (true-at t literals (tree p b)) (active + 2) (rows t) raised both → Lowered n active both exit
         → Sieved (true-at t literals (tree p l)) active (rows t) entry exit
-    pair-decided b is-second both back exit second holding failing = sieved-agree active (rows t) entry exit _ (true-at t literals (tree p l))
-        (pair-sieved active (rows t) (true-at t literals (tree p a)) entry decided low first (true-at t literals (tree p b)) raised both back exit second (rw all at holding) (rw all at failing) any (rw (all, is-from) at up))
+    pair-decided b is-second both exit second down = sieved-agree active (rows t) entry exit _ (true-at t literals (tree p l))
+        (pair-sieved active (rows t) (true-at t literals (tree p a)) entry decided low first (true-at t literals (tree p b)) raised both exit second (rw all at down) any (rw all at up))
         (λ y m i. pair-row t literals p l some-row a is-first (field p (l - 1) 0) refl b is-second any op y)
 
   -- a not

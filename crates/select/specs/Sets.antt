@@ -2,7 +2,7 @@
 -- Assumes nothing: these are definitions.
 use Prim.Native.Nat.{ℕ, _<_}
 use mathlib.Core.Path.{_≡_}
-use mathlib.Core.Bool.{Bool, true, false, _&&_}
+use mathlib.Core.Bool.{Bool, false, _&&_}
 use mathlib.Core.List.{List}
 use lib.Dec.{eqb}
 use lib.ListN.{getD}
@@ -11,7 +11,7 @@ use Rattle.meaning.specs.Table.{rows}
 use Rattle.meaning.specs.Tree.{Tree}
 use Rattle.meaning.proofs.Free.{ok}
 use Rattle.meaning.proofs.Backward.{before}
-use Rattle.meaning.proofs.Near.{backsNear, ahead, Covers}
+use Rattle.meaning.proofs.Near.{backsNear}
 use Rattle.sieve.specs.Sieve.{state}
 
 -- of the rows those stay marked at which all predicates of a chain hold
@@ -29,10 +29,3 @@ LedBy t literals near e c d entry exit = (y : ℕ) → y < rows t → getD exit 
 -- the rows from which a chain of steps leads, over rows that are near alone, to a marked row
 unfoldable pub Led : List ℕ → List Float → List Bool → Tree → List Bool → List Bool → Type 0
 Led t literals near s entry exit = (y : ℕ) → y < rows t → getD exit y false ≡ backsNear t literals (λ z. getD near z false) s (λ z. getD entry z false) y
-
--- what a chain of steps may reach from the marked rows, by its axes and tests alone, is marked; every row it comes by is near,
--- besides those that were
-pub record Covered (t : List ℕ) (s : Tree) (entry exit before after : List Bool) : Type 0 where
-  pub reached : (y : ℕ) → y < rows t → getD exit y false ≡ ahead t s (λ x. getD entry x false) y
-  pub kept : (y : ℕ) → y < rows t → getD before y false ≡ true → getD after y false ≡ true
-  pub covers : Covers t (λ y. getD after y false) s (λ x. getD entry x false)

@@ -2,7 +2,6 @@
 // same over whole sets, where no position is counted: a step, a chain of predicates, a truth, and a chain of steps backwards.
 // Each call goes to a lower row, but for those within one step, one truth and one path; so links, with room for three calls at
 // the same link, bound the depth. Large arrays stand where no chain repeats a frame: once for each path inside a path.
-use crate::cover::cover;
 use basics::below;
 use basics::wide;
 use candidates::list_candidates;
@@ -10,6 +9,7 @@ use counting::counting;
 use counting::counts;
 use counting::is_heavy;
 use counting::is_over_path;
+use cover::cover_active;
 use marks::add_marks;
 use marks::copy_marks;
 use marks::count_marks;
@@ -28,8 +28,9 @@ use reach::reach;
 use reach::reach_back;
 use sieve::choose;
 use sieve::exchange;
+use sieve::lower;
 use sieve::put_out;
-use sieve::recast;
+use sieve::raise;
 use sieve::retain;
 use sieve::settle;
 use sieve::settle_all;
@@ -56,7 +57,7 @@ ghost use Rattle.meaning.proofs.Evaluation.{stepTo};
 ghost use Rattle.meaning.proofs.Free.{true-at};
 ghost use Rattle.meaning.proofs.Backward.{backs};
 ghost use Rattle.sieve.specs.Sieve.{Sieved, Bounded};
-ghost use Rattle.select.specs.Ready.{Ready};
+ghost use Rattle.cover.specs.Ready.{Ready};
 ghost use Rattle.select.specs.Sets.{Narrowed, Thinned, Led, LedBy};
 
 // The value of the expression that a link names, in a context.
@@ -235,10 +236,9 @@ fn decide_pair(
     let second = second_link(path, row);
     let n = row_count(table);
     decide(table, path, literals, first, active, states);
-    recast(states, n, choose(any, active + 1, active), active + 2);
+    raise(states, n, any, active);
     decide(table, path, literals, second, active + 2, states);
-    recast(states, n, active + 2, active);
-    recast(states, n, active + 3, active + 1);
+    lower(states, n, active);
 }
 
 // Decides a not: the rows where its operand holds and those where it does not are exchanged.
@@ -320,9 +320,7 @@ fn decide_back(
     let heavy = is_heavy(path, link);
     let mut near = [!heavy; MOST_ROWS];
     if heavy {
-        let mut reached = [true; MOST_ROWS];
-        retain(states, active, &mut reached, n);
-        cover(table, path, link, &mut reached, &mut near);
+        cover_active(table, path, link, active, states, &mut near);
     }
     let mut marks = [true; MOST_ROWS];
     back(table, path, literals, link, &near, &mut marks);

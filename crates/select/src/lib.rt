@@ -1,5 +1,4 @@
 // The evaluator: what a path selects from a node of a table (document 01, "Meaning" and "Numbers given back").
-mod cover;
 mod cycle;
 
 use basics::given;

@@ -12,7 +12,7 @@ use lib.Seq.{getD-set-same, getD-set-other}
 use native.Mathlib.Omega.{arith}
 use borrow.Author.Tests.{eq-eqb, ne-eqb, lt-ltb, le-ltb}
 use Rattle.meaning.proofs.Bools.{eq-or-ne, lt-or-ge}
-use Rattle.sieve.specs.Sieve.{state, recastOf, exchangedOf, sievedOf, Became, BecameTo, Recast, Exchanged, Sieved, SievedTo, Bounded, Retained}
+use Rattle.sieve.specs.Sieve.{state, recastOf, loweredOf, exchangedOf, sievedOf, Became, BecameTo, Recast, Lowered, Exchanged, Sieved, SievedTo, Bounded, Retained}
 
 -- ---- one state after the other
 
@@ -92,17 +92,18 @@ sieved-miss a active s q = rw (ne-eqb s active q)
 
 -- decided one level higher, and lowered again
 abbrev lowered : Bool → ℕ → ℕ → ℕ
-lowered b active s = recastOf (active + 3) (active + 1) (recastOf (active + 2) active (sievedOf b (active + 2) s))
+lowered b active s = loweredOf active (sievedOf b (active + 2) s)
 
 lowered-hit : (b : Bool) (active s : ℕ) → s ≡ active + 2 → lowered b active s ≡ cond b active (active + 1)
 lowered-hit b active s e = rw (sieved-hit b (active + 2) s e) (by b)
   where
-    by : (b : Bool) → recastOf (active + 3) (active + 1) (recastOf (active + 2) active (cond b (active + 2) (active + 2 + 1))) ≡ cond b active (active + 1)
-    by true = rw (recast-hit (active + 2) active (active + 2) refl) (recast-miss (active + 3) (active + 1) active (λ e. omega arith))
-    by false = rw (recast-miss (active + 2) active (active + 2 + 1) (λ e. omega arith)) (recast-hit (active + 3) (active + 1) (active + 2 + 1) (omega arith))
+    by : (b : Bool) → loweredOf active (cond b (active + 2) (active + 2 + 1)) ≡ cond b active (active + 1)
+    by true = unfold loweredOf in rw (eq-eqb (active + 2) (active + 2) refl)
+    by false = unfold loweredOf in rw (ne-eqb (active + 2 + 1) (active + 2) (λ e. omega arith), eq-eqb (active + 2 + 1) (active + 3) (omega arith))
 
 lowered-miss : (b : Bool) (active s : ℕ) → s ≤ active + 1 → lowered b active s ≡ s
-lowered-miss b active s l = rw (sieved-miss b (active + 2) s (λ e. omega arith), recast-miss (active + 2) active s (λ e. omega arith)) (recast-miss (active + 3) (active + 1) s (λ e. omega arith))
+unfolding loweredOf
+lowered-miss b active s l = rw (sieved-miss b (active + 2) s (λ e. omega arith), ne-eqb s (active + 2) (λ e. omega arith), ne-eqb s (active + 3) (λ e. omega arith))
 
 module _ (active s : ℕ) (low : s ≤ active) where
   -- where a holds b decides, one level higher
@@ -142,16 +143,16 @@ module _ (active s : ℕ) (low : s ≤ active) where
 -- ---- and, or, not
 
 module _ (active n : ℕ) (f : ℕ → Bool) (entry decided : List ℕ) (low : Bounded n active entry) (first : Sieved f active n entry decided) where
-  module _ (g : ℕ → Bool) (raised both back exit : List ℕ) (second : Sieved g (active + 2) n raised both) (holding : Recast n (active + 2) active both back) (failing : Recast n (active + 3) (active + 1) back exit) where
+  module _ (g : ℕ → Bool) (raised both exit : List ℕ) (second : Sieved g (active + 2) n raised both) (down : Lowered n active both exit) where
     -- the rows where the first operand holds are raised, the second is decided for them, and all are lowered
     pub and-sieved : Recast n active (active + 2) decided raised → Sieved (λ y. f y && g y) active n entry exit
-    unfolding Recast Sieved Became Bounded
-    and-sieved up y l = rw (failing y l, holding y l, second y l, up y l, first y l) (and-of active (state entry y) (low y l) (f y) (g y))
+    unfolding Recast Lowered Sieved Became Bounded
+    and-sieved up y l = rw (down y l, second y l, up y l, first y l) (and-of active (state entry y) (low y l) (f y) (g y))
 
     -- the rows where it does not hold are raised
     pub or-sieved : Recast n (active + 1) (active + 2) decided raised → Sieved (λ y. f y || g y) active n entry exit
-    unfolding Recast Sieved Became Bounded
-    or-sieved up y l = rw (failing y l, holding y l, second y l, up y l, first y l) (or-of active (state entry y) (low y l) (f y) (g y))
+    unfolding Recast Lowered Sieved Became Bounded
+    or-sieved up y l = rw (down y l, second y l, up y l, first y l) (or-of active (state entry y) (low y l) (f y) (g y))
 
     -- the two under one head: an or where any, else an and
     pub pair-sieved : (any : Bool) → Recast n (cond any (active + 1) active) (active + 2) decided raised → Sieved (λ y. cond any (f y || g y) (f y && g y)) active n entry exit

@@ -21,6 +21,10 @@ recastOf from to s = cond (eqb s from) to s
 unfoldable pub exchangedOf : ℕ → ℕ → ℕ
 exchangedOf active s = cond (eqb s active) (active + 1) (cond (eqb s (active + 1)) active s)
 
+-- the two states of the level above become those of active's own
+unfoldable pub loweredOf : ℕ → ℕ → ℕ
+loweredOf active s = cond (eqb s (active + 2)) active (cond (eqb s (active + 3)) (active + 1) s)
+
 -- an active state goes on where the row passes, and becomes one more where it does not
 unfoldable pub sievedOf : Bool → ℕ → ℕ → ℕ
 sievedOf passes active s = cond (eqb s active) (cond passes active (active + 1)) s
@@ -40,6 +44,10 @@ Recast n from to = Became (λ y. recastOf from to) n
 -- active and active + 1 are exchanged among the first n states
 unfoldable pub Exchanged : ℕ → ℕ → List ℕ → List ℕ → Type 0
 Exchanged n active = Became (λ y. exchangedOf active) n
+
+-- the level above active's is lowered to it among the first n states
+unfoldable pub Lowered : ℕ → ℕ → List ℕ → List ℕ → Type 0
+Lowered n active = Became (λ y. loweredOf active) n
 
 -- f is decided for the active ones of the first n rows
 unfoldable pub Sieved : (ℕ → Bool) → ℕ → ℕ → List ℕ → List ℕ → Type 0

@@ -4,9 +4,9 @@
 use basics::both;
 ghost use mathlib.Core.Path.{_≡_};
 ghost use mathlib.Core.Bool.{false, cond};
-ghost use Prim.Native.Nat.{_<_, _≤_};
+ghost use Prim.Native.Nat.{_+_, _<_, _≤_};
 ghost use lib.ListN.{length, getD};
-ghost use Rattle.sieve.specs.Sieve.{Recast, Exchanged, Sieved, Retained};
+ghost use Rattle.sieve.specs.Sieve.{Recast, Lowered, Exchanged, Sieved, Retained};
 
 // One of two states.
 pub fn choose(test: bool, a: u16, b: u16) -> u16
@@ -34,6 +34,30 @@ pub fn put_out(states: &mut [u16], n: usize)
     ensures { λ _. ⌜ Recast n 3 0 (now (states .entry)) (now (states .exit)) ⌝ }
 {
     recast(states, n, 3, 0);
+}
+
+// Raises by a level what the first operand of an and leaves open, what holds, or where any of an or, what does not.
+pub fn raise(states: &mut [u16], n: usize, any: bool, active: u16)
+    requires { ⌜ n ≤ length (now states) ⌝ ∗ ⌜ active < 65533 ⌝ }
+    ensures { λ _. ⌜ Recast n (cond any (active + 1) active) (active + 2) (now (states .entry)) (now (states .exit)) ⌝ }
+{
+    recast(states, n, choose(any, active + 1, active), active + 2);
+}
+
+// Lowers the two states of the level above to those of active's own.
+pub fn lower(states: &mut [u16], n: usize, active: u16)
+    requires { ⌜ n ≤ length (now states) ⌝ ∗ ⌜ active < 65532 ⌝ }
+    ensures { λ _. ⌜ Lowered n active (now (states .entry)) (now (states .exit)) ⌝ }
+{
+    let held = active + 2;
+    let failed = active + 3;
+    let next = active + 1;
+    let mut i = 0;
+    while i < n {
+        let s = states[i];
+        states[i] = choose(s == held, active, choose(s == failed, next, s));
+        i += 1;
+    }
 }
 
 // Exchanges active and active + 1 among the first n states.

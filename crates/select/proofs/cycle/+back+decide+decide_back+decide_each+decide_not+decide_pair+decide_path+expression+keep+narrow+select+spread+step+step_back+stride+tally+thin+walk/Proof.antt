@@ -62,10 +62,10 @@ pub +back+decide+decide-back+decide-each+decide-not+decide-pair+decide-path+expr
     close μ-back μ-decide μ-decide-back μ-decide-each μ-decide-not μ-decide-pair μ-decide-path μ-expression μ-keep μ-narrow μ-select μ-spread μ-step μ-step-back μ-stride μ-tally μ-thin μ-walk
     (λ t. back-lts.spec (back-calls t) (back-at t) back.Post (Back.returns t) (Back.sub-row t) (Back.second-link-requires t) (Back.index-or-axis-requires t) (Back.test-at-requires t) (Back.step-back-requires t) (Back.first-link-requires t) (Back.back-requires t) (Back.same-length t) (Back.returns-2 t))
     (λ t. decide-lts.spec (decide-calls t) (decide-at t) decide.Post (Decide.decide-each-requires t) (Decide.same-length t) (Decide.returns t) (Decide.sub-field-at t) (Decide.field-at-requires t) (Decide.decide-pair-requires t) (Decide.decide-pair-requires-2 t) (Decide.decide-not-requires t) (Decide.decide-path-requires t) (Decide.decide-each-requires-2 t) (Decide.same-length-2 t) (Decide.returns-2 t) (Decide.same-length-3 t) (Decide.returns-3 t) (Decide.same-length-4 t) (Decide.returns-4 t) (Decide.same-length-5 t) (Decide.returns-5 t) (Decide.same-length-6 t) (Decide.returns-6 t))
-    (λ t. decide-back-lts.spec (decide-back-calls t) (decide-back-at t) decide-back.Post (DecideBack.row-count-requires t) (DecideBack.is-heavy-requires t) (DecideBack.slice-aggregate-retain t) (DecideBack.retain-requires t) (DecideBack.slice-aggregate-cover t) (DecideBack.slice-aggregate-cover-2 t) (DecideBack.cover-requires t) (DecideBack.slice-aggregate-back t) (DecideBack.slice-aggregate-back-2 t) (DecideBack.back-requires t) (DecideBack.slice-aggregate-settle t) (DecideBack.settle-requires t) (DecideBack.same-length t) (DecideBack.returns t))
+    (λ t. decide-back-lts.spec (decide-back-calls t) (decide-back-at t) decide-back.Post (DecideBack.row-count-requires t) (DecideBack.is-heavy-requires t) (DecideBack.slice-aggregate-cover-active t) (DecideBack.cover-active-requires t) (DecideBack.slice-aggregate-back t) (DecideBack.slice-aggregate-back-2 t) (DecideBack.back-requires t) (DecideBack.slice-aggregate-settle t) (DecideBack.settle-requires t) (DecideBack.same-length t) (DecideBack.returns t))
     (λ t. decide-each-lts.spec (decide-each-calls t) (decide-each-at t) decide-each.Post DecideEach.Inv-loop DecideEach.μ-loop (DecideEach.row-count-requires t) (DecideEach.float-of-requires t) (DecideEach.loop-holds t) (DecideEach.mul-if1 t) (DecideEach.slice-read-if1 t) (DecideEach.expression-requires t) (DecideEach.truth-of-requires t) (DecideEach.add-choose t) (DecideEach.choose-requires t) (DecideEach.mul-states t) (DecideEach.slice-write-states t) (DecideEach.add-i t) (DecideEach.loop-less t) (DecideEach.loop-again t) (DecideEach.same-length t) (DecideEach.returns t))
     (λ t. decide-not-lts.spec (decide-not-calls t) (decide-not-at t) decide-not.Post (DecideNot.sub-first-link t) (DecideNot.first-link-requires t) (DecideNot.decide-requires t) (DecideNot.row-count-requires t) (DecideNot.exchange-requires t) (DecideNot.same-length t) (DecideNot.returns t))
-    (λ t. decide-pair-lts.spec (decide-pair-calls t) (decide-pair-at t) decide-pair.Post (DecidePair.sub-row t) (DecidePair.first-link-requires t) (DecidePair.second-link-requires t) (DecidePair.row-count-requires t) (DecidePair.decide-requires t) (DecidePair.add-choose t) (DecidePair.choose-requires t) (DecidePair.add-recast t) (DecidePair.recast-requires t) (DecidePair.add-decide t) (DecidePair.decide-requires-2 t) (DecidePair.add-recast-2 t) (DecidePair.recast-requires-2 t) (DecidePair.add-recast-3 t) (DecidePair.add-recast-4 t) (DecidePair.recast-requires-3 t) (DecidePair.same-length t) (DecidePair.returns t))
+    (λ t. decide-pair-lts.spec (decide-pair-calls t) (decide-pair-at t) decide-pair.Post (DecidePair.sub-row t) (DecidePair.first-link-requires t) (DecidePair.second-link-requires t) (DecidePair.row-count-requires t) (DecidePair.decide-requires t) (DecidePair.raise-requires t) (DecidePair.add-decide t) (DecidePair.decide-requires-2 t) (DecidePair.lower-requires t) (DecidePair.same-length t) (DecidePair.returns t))
     (λ t. decide-path-lts.spec (decide-path-calls t) (decide-path-at t) decide-path.Post (DecidePath.sub-first-link t) (DecidePath.first-link-requires t) (DecidePath.decide-each-requires t) (DecidePath.same-length t) (DecidePath.returns t) (DecidePath.sub-top t) (DecidePath.field-at-requires t) (DecidePath.tally-requires t) (DecidePath.row-count-requires t) (DecidePath.below-requires t) (DecidePath.settle-all-requires t) (DecidePath.same-length-2 t) (DecidePath.returns-2 t) (DecidePath.first-link-requires-2 t) (DecidePath.counts-requires t) (DecidePath.decide-each-requires-2 t) (DecidePath.same-length-3 t) (DecidePath.returns-3 t) (DecidePath.decide-back-requires t) (DecidePath.same-length-4 t) (DecidePath.returns-4 t))
     (λ t. expression-lts.spec (expression-calls t) (expression-at t) expression.Post (Expression.returns t) (Expression.sub-row t) (Expression.field-at-requires t) (Expression.index-or-axis-requires t) (Expression.first-link-requires t) (Expression.is-over-path-requires t) (Expression.tally-requires t) (Expression.apply-requires t) (Expression.returns-2 t) (Expression.takes-second-requires t) (Expression.second-link-requires t) (Expression.expression-requires t) (Expression.is-decided-requires t) (Expression.apply-requires-2 t) (Expression.returns-3 t) (Expression.expression-requires-2 t) (Expression.apply-requires-3 t) (Expression.returns-4 t) (Expression.takes-first-requires t) (Expression.expression-requires-3 t) (Expression.apply-requires-4 t) (Expression.returns-5 t) (Expression.apply-requires-5 t) (Expression.returns-6 t))
     (λ t. keep-lts.spec (keep-calls t) (keep-at t) keep.Post Keep.Inv-loop Keep.μ-loop (Keep.returns t) (Keep.sub-row t) (Keep.first-link-requires t) (Keep.keep-requires t) (Keep.second-link-requires t) (Keep.float-of-requires t) (Keep.loop-holds t) (Keep.mul-y t) (Keep.slice-read-y t) (Keep.add-float-of t) (Keep.float-of-requires-2 t) (Keep.wide-requires t) (Keep.expression-requires t) (Keep.keeps-requires t) (Keep.mul-list t) (Keep.slice-write-list t) (Keep.add-m t) (Keep.add-i t) (Keep.loop-less t) (Keep.loop-again t) (Keep.same-length t) (Keep.returns-2 t))

@@ -21,23 +21,14 @@ module _ (t : ℕ) where
   pub is-heavy-requires : lts.Need-is-heavy-requires (calls t) (given t) reads.Post
   is-heavy-requires c κs = search needs
 
-  pub slice-aggregate-retain : lts.Need-slice-aggregate-retain (calls t) (given t) reads.Post
-  slice-aggregate-retain c = search needs
+  pub slice-aggregate-cover-active : lts.Need-slice-aggregate-cover-active (calls t) (given t) reads.Post
+  slice-aggregate-cover-active c = search needs
 
-  pub retain-requires : lts.Need-retain-requires (calls t) (given t) reads.Post
-  retain-requires c κs = search needs
-
-  pub slice-aggregate-cover : lts.Need-slice-aggregate-cover (calls t) (given t) reads.Post
-  slice-aggregate-cover c = search needs
-
-  pub slice-aggregate-cover-2 : lts.Need-slice-aggregate-cover-2 (calls t) (given t) reads.Post
-  slice-aggregate-cover-2 c = search needs
-
-  pub cover-requires : lts.Need-cover-requires (calls t) (given t) reads.Post
-  cover-requires c κs = search needs
+  pub cover-active-requires : lts.Need-cover-active-requires (calls t) (given t) reads.Post
+  cover-active-requires c κs = search needs
 
   pub slice-aggregate-back : lts.Need-slice-aggregate-back (calls t) (given t) reads.Post
-  slice-aggregate-back c = sym (⊎-elim (λ w. ap length (w .10) ∙ w .7 .kept .1 .1 .1 .1 .0) (λ w. ap length (w .1)) (c .before .if1 .came))
+  slice-aggregate-back c = sym (⊎-elim (λ w. ap length (w .5) ∙ w .3 .kept .1 .1 .1 .1 .1 .0) (λ w. ap length (w .1)) (c .before .if1 .came))
 
   pub slice-aggregate-back-2 : lts.Need-slice-aggregate-back-2 (calls t) (given t) reads.Post
   slice-aggregate-back-2 c = search needs
@@ -46,7 +37,7 @@ module _ (t : ℕ) where
   back-requires c κs =
       let joined = c .before .before in
       let start = joined .before .before .before .before .before .before .before in
-      let long : length (joined .if1 .near) ≡ mostRows = ⊎-elim (λ w. ap length (w .10) ∙ w .7 .kept .1 .1 .1 .1 .0) (λ w. ap length (w .1)) (joined .if1 .came) in
+      let long : length (joined .if1 .near) ≡ mostRows = ⊎-elim (λ w. ap length (w .5) ∙ w .3 .kept .1 .1 .1 .1 .1 .0) (λ w. ap length (w .1)) (joined .if1 .came) in
       (omega (arith, start .pre), (start .pre .1 .0, (long, search needs)))
 
   pub slice-aggregate-settle : lts.Need-slice-aggregate-settle (calls t) (given t) reads.Post
@@ -67,6 +58,6 @@ module _ (t : ℕ) where
       let start = row-count .before .before .before .before .before in
       let full : (y : ℕ) → y < rows (start .args .table .now) → getD (replicate mostRows true) y false ≡ true = λ y l. getD-replicate mostRows y true false (omega (arith, l, start .pre .1 .0 .small)) in
       ⊎-elim
-      (λ w. near-decided _ _ _ _ _ _ _ _ _ _ (row-count .row-count .ensures) full (back .back .ensures) (settle .settle .ensures) _ _ _ (w .3 .ensures) (rw (sym (w .10)) at (w .7 .ensures)))
+      (λ w. near-decided _ _ _ _ _ _ _ _ _ _ (row-count .row-count .ensures) full (back .back .ensures) (settle .settle .ensures) (rw (sym (w .5)) at (w .3 .ensures)))
       (λ w. all-decided _ _ _ _ _ _ _ _ _ _ (row-count .row-count .ensures) full (back .back .ensures) (settle .settle .ensures) (λ y l. ap (λ (n : List Bool). getD n y false) (w .1) ∙ getD-replicate mostRows y _ false (omega (arith, l, start .pre .1 .0 .small)) ∙ ap not (w .0 .left)))
       (joined .if1 .came)

@@ -4,7 +4,7 @@ use Prim.Native.Nat.{ℕ}
 use native.Mathlib.Omega.{arith}
 use borrow.Author.Needs.{needs}
 use Rattle.select.proofs.Sets.{raised-low, pair-decided}
-use Rattle.select.proofs.Links.{lower}
+use Rattle.cover.proofs.Links.{lower}
 use Rattle.select.proofs.cycle.decide_pair.Reads as reads
 use Rattle.select.proofs.cycle.+back+decide+decide_back+decide_each+decide_not+decide_pair+decide_path+expression+keep+narrow+select+spread+step+step_back+stride+tally+thin+walk.Lts-decide_pair as lts
 use Rattle.select.proofs.cycle.+back+decide+decide_back+decide_each+decide_not+decide_pair+decide_path+expression+keep+narrow+select+spread+step+step_back+stride+tally+thin+walk.Proof.Shared.{decide-pair-at as given, decide-pair-calls as calls}
@@ -28,89 +28,48 @@ module _ (t : ℕ) where
       let start = first-link .before .before .before .before .before in
       (omega (arith, start .pre, first-link .first-link .ensures), (lower _ _ _ (start .pre .1 .0) (omega (arith, start .pre, first-link .first-link .ensures)), ((omega (arith, start .pre, first-link .first-link .ensures), omega (arith, start .pre)), start .pre .1 .1 .1 .1)))
 
-  pub add-choose : lts.Need-add-choose (calls t) (given t) reads.Post
-  add-choose c =
-      let start = c .before .before .before .before .before .before .before .before .before .before .before .before in
-      search (needs, start .pre .1 .1 .0)
-
-  pub choose-requires : lts.Need-choose-requires (calls t) (given t) reads.Post
-  choose-requires c κs = search needs
-
-  pub add-recast : lts.Need-add-recast (calls t) (given t) reads.Post
-  add-recast c =
-      let start = c .before .before .before .before .before .before .before .before .before .before .before .before .before in
-      search (needs, start .pre .1 .1 .0)
-
-  pub recast-requires : lts.Need-recast-requires (calls t) (given t) reads.Post
-  recast-requires c κs =
-      let decide = c .before .before .before .before in
+  pub raise-requires : lts.Need-raise-requires (calls t) (given t) reads.Post
+  raise-requires c κs =
+      let decide = c .before .before .before in
       let row-count = decide .before .before in
       let start = row-count .before .before .before .before .before .before .before in
-      omega (arith, row-count .row-count .ensures, start .pre .1 .0 .small, start .pre, decide .decide .kept)
+      (omega (arith, row-count .row-count .ensures, start .pre .1 .0 .small, start .pre, decide .decide .kept), omega (arith, start .pre))
 
   pub add-decide : lts.Need-add-decide (calls t) (given t) reads.Post
   add-decide c =
-      let start = c .before .before .before .before .before .before .before .before .before .before .before .before .before .before .before .before in
+      let start = c .before .before .before .before .before .before .before .before .before .before .before .before .before .before .before in
       search (needs, start .pre .1 .1 .0)
 
   pub decide-requires-2 : lts.Need-decide-requires-2 (calls t) (given t) reads.Post
   decide-requires-2 c κs =
-      let recast = c .before .before .before in
-      let choose = recast .before in
-      let decide = choose .before .before .before .before in
+      let raise = c .before .before .before in
+      let decide = raise .before .before .before .before in
       let row-count = decide .before .before in
       let second-link = row-count .before in
       let first-link = second-link .before in
       let start = first-link .before .before .before .before .before in
-      (omega (arith, start .pre, second-link .second-link .ensures), (lower _ _ _ (start .pre .1 .0) (omega (arith, start .pre, second-link .second-link .ensures)), ((omega (arith, start .pre, second-link .second-link .ensures), omega (arith, start .pre, decide .decide .kept, recast .recast .kept)), raised-low _ _ _ _ (λ e. omega (arith, start .pre)) _ (first-link .first-link .ensures .0) _ _ _ _ (row-count .row-count .ensures) (start .pre .1 .1 .1 .1) (decide .decide .ensures) (start .args .any) _ (start .pre .1 .1 .1 .0) (choose .choose .ensures) _ (recast .recast .ensures))))
+      (omega (arith, start .pre, second-link .second-link .ensures), (lower _ _ _ (start .pre .1 .0) (omega (arith, start .pre, second-link .second-link .ensures)), ((omega (arith, start .pre, second-link .second-link .ensures), omega (arith, start .pre, decide .decide .kept, raise .raise .kept)), raised-low _ _ _ _ (λ e. omega (arith, start .pre)) _ (first-link .first-link .ensures .0) _ _ _ _ (row-count .row-count .ensures) (start .pre .1 .1 .1 .1) (decide .decide .ensures) (start .args .any) (start .pre .1 .1 .1 .0) _ (raise .raise .ensures))))
 
-  pub add-recast-2 : lts.Need-add-recast-2 (calls t) (given t) reads.Post
-  add-recast-2 c =
-      let start = c .before .before .before .before .before .before .before .before .before .before .before .before .before .before .before .before .before .before .before .before .before in
-      search (needs, start .pre .1 .1 .0)
-
-  pub recast-requires-2 : lts.Need-recast-requires-2 (calls t) (given t) reads.Post
-  recast-requires-2 c κs =
+  pub lower-requires : lts.Need-lower-requires (calls t) (given t) reads.Post
+  lower-requires c κs =
       let decide2 = c .before .before .before in
-      let recast = decide2 .before .before .before .before in
-      let decide = recast .before .before .before .before .before in
+      let raise = decide2 .before .before .before .before in
+      let decide = raise .before .before .before .before in
       let row-count = decide .before .before in
       let start = row-count .before .before .before .before .before .before .before in
-      omega (arith, row-count .row-count .ensures, start .pre .1 .0 .small, start .pre, decide .decide .kept, recast .recast .kept, decide2 .decide2 .kept)
-
-  pub add-recast-3 : lts.Need-add-recast-3 (calls t) (given t) reads.Post
-  add-recast-3 c =
-      let start = c .before .before .before .before .before .before .before .before .before .before .before .before .before .before .before .before .before .before .before .before .before .before .before .before .before in
-      search (needs, start .pre .1 .1 .0)
-
-  pub add-recast-4 : lts.Need-add-recast-4 (calls t) (given t) reads.Post
-  add-recast-4 c =
-      let start = c .before .before .before .before .before .before .before .before .before .before .before .before .before .before .before .before .before .before .before .before .before .before .before .before .before in
-      search (needs, start .pre .1 .1 .0)
-
-  pub recast-requires-3 : lts.Need-recast-requires-3 (calls t) (given t) reads.Post
-  recast-requires-3 c κs =
-      let recast2 = c .before .before .before in
-      let decide2 = recast2 .before .before .before .before in
-      let recast = decide2 .before .before .before .before in
-      let decide = recast .before .before .before .before .before in
-      let row-count = decide .before .before in
-      let start = row-count .before .before .before .before .before .before .before in
-      omega (arith, row-count .row-count .ensures, start .pre .1 .0 .small, start .pre, decide .decide .kept, recast .recast .kept, decide2 .decide2 .kept, recast2 .recast2 .kept)
+      (omega (arith, row-count .row-count .ensures, start .pre .1 .0 .small, start .pre, decide .decide .kept, raise .raise .kept, decide2 .decide2 .kept), omega (arith, start .pre))
 
   pub same-length : lts.Need-same-length (calls t) (given t) reads.Post
   same-length c = search needs
 
   pub returns : lts.Need-returns (calls t) (given t) reads.Post
   returns c =
-      let recast3 = c .before .before in
-      let recast2 = recast3 .before .before .before .before in
-      let decide2 = recast2 .before .before .before .before in
-      let recast = decide2 .before .before .before .before in
-      let choose = recast .before in
-      let decide = choose .before .before .before .before in
+      let lower = c .before .before in
+      let decide2 = lower .before .before .before .before in
+      let raise = decide2 .before .before .before .before in
+      let decide = raise .before .before .before .before in
       let row-count = decide .before .before in
       let second-link = row-count .before in
       let first-link = second-link .before in
       let start = first-link .before .before .before .before .before in
-      pair-decided _ _ _ _ (λ e. omega (arith, start .pre)) _ (first-link .first-link .ensures .0) _ _ _ _ (row-count .row-count .ensures) (start .pre .1 .1 .1 .1) (decide .decide .ensures) (start .args .any) _ (start .pre .1 .1 .1 .0) (choose .choose .ensures) _ (recast .recast .ensures) _ (second-link .second-link .ensures .0) _ _ _ (decide2 .decide2 .ensures) (recast2 .recast2 .ensures) (recast3 .recast3 .ensures)
+      pair-decided _ _ _ _ (λ e. omega (arith, start .pre)) _ (first-link .first-link .ensures .0) _ _ _ _ (row-count .row-count .ensures) (start .pre .1 .1 .1 .1) (decide .decide .ensures) (start .args .any) (start .pre .1 .1 .1 .0) _ (raise .raise .ensures) _ (second-link .second-link .ensures .0) _ _ (decide2 .decide2 .ensures) (lower .lower .ensures)

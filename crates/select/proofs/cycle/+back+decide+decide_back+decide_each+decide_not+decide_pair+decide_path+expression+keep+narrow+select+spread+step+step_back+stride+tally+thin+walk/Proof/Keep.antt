@@ -11,7 +11,7 @@ use borrow.Author.Needs.{needs}
 use Rattle.meaning.specs.Table.{mostRows}
 use Rattle.meaning.proofs.Filters.{Kept, kept-start, kept-skip, kept-more, kept-done}
 use Rattle.meaning.proofs.Evaluation.{keptBy, kept-by, filtered-none, filtered-row}
-use Rattle.select.proofs.Links.{lower}
+use Rattle.cover.proofs.Links.{lower}
 use Rattle.select.proofs.cycle.keep.Reads as reads
 use Rattle.select.proofs.cycle.+back+decide+decide_back+decide_each+decide_not+decide_pair+decide_path+expression+keep+narrow+select+spread+step+step_back+stride+tally+thin+walk.Lts-keep as lts
 use Rattle.select.proofs.cycle.+back+decide+decide_back+decide_each+decide_not+decide_pair+decide_path+expression+keep+narrow+select+spread+step+step_back+stride+tally+thin+walk.Proof.Shared.{keep-at as given, keep-calls as calls}

@@ -3,7 +3,7 @@
 use Prim.Native.Nat.{ℕ}
 use native.Mathlib.Omega.{arith}
 use borrow.Author.Needs.{needs}
-use Rattle.select.proofs.Links.{lower}
+use Rattle.cover.proofs.Links.{lower}
 use lib.ListN.{getD-replicate}
 use Rattle.meaning.specs.Table.{mostRows}
 use Rattle.select.proofs.Sets.{narrowed-none, narrowed-by, settled-low}

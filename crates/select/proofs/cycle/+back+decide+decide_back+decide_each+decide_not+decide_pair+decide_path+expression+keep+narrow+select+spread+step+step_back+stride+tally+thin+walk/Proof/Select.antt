@@ -3,7 +3,7 @@
 use Prim.Native.Nat.{ℕ}
 use native.Mathlib.Omega.{arith}
 use borrow.Author.Needs.{needs}
-use Rattle.select.proofs.Links.{lower}
+use Rattle.cover.proofs.Links.{lower}
 use Rattle.meaning.proofs.Evaluation.{select-none, select-row}
 use Rattle.select.proofs.cycle.select.Reads as reads
 use Rattle.select.proofs.cycle.+back+decide+decide_back+decide_each+decide_not+decide_pair+decide_path+expression+keep+narrow+select+spread+step+step_back+stride+tally+thin+walk.Lts-select as lts

@@ -71,7 +71,7 @@ use Rattle.path.proofs.test_at.Reads as test-at-reads
 use Rattle.reach.proofs.reach.Reads as reach-reads
 use Rattle.reach.proofs.reach_back.Reads as reach-back-reads
 use Rattle.candidates.proofs.list_candidates.Reads as list-candidates-reads
-use Rattle.select.proofs.cover.cover.Reads as cover-reads
+use Rattle.cover.proofs.cover_active.Reads as cover-active-reads
 use Rattle.marks.proofs.add_marks.Reads as add-marks-reads
 use Rattle.marks.proofs.copy_marks.Reads as copy-marks-reads
 use Rattle.marks.proofs.count_marks.Reads as count-marks-reads
@@ -88,8 +88,9 @@ use Rattle.values.proofs.takes_second.Reads as takes-second-reads
 use Rattle.values.proofs.truth_of.Reads as truth-of-reads
 use Rattle.sieve.proofs.choose.Reads as choose-reads
 use Rattle.sieve.proofs.exchange.Reads as exchange-reads
+use Rattle.sieve.proofs.lower.Reads as lower-reads
 use Rattle.sieve.proofs.put_out.Reads as put-out-reads
-use Rattle.sieve.proofs.recast.Reads as recast-reads
+use Rattle.sieve.proofs.raise.Reads as raise-reads
 use Rattle.sieve.proofs.retain.Reads as retain-reads
 use Rattle.sieve.proofs.settle.Reads as settle-reads
 use Rattle.sieve.proofs.settle_all.Reads as settle-all-reads
@@ -306,10 +307,8 @@ decide-back-calls t = (
   row-count-reads.Learnt,
   is-heavy-reads.Asked,
   is-heavy-reads.Learnt,
-  retain-reads.Asked,
-  retain-reads.Learnt,
-  cover-reads.Asked,
-  cover-reads.Learnt,
+  cover-active-reads.Asked,
+  cover-active-reads.Learnt,
   back-below t,
   back.Post,
   settle-reads.Asked,
@@ -352,10 +351,10 @@ decide-pair-calls t = (
   row-count-reads.Learnt,
   decide-below t,
   decide.Post,
-  choose-reads.Asked,
-  choose-reads.Learnt,
-  recast-reads.Asked,
-  recast-reads.Learnt,
+  raise-reads.Asked,
+  raise-reads.Learnt,
+  lower-reads.Asked,
+  lower-reads.Learnt,
 )
 
 abbrev pub decide-path-calls : ℕ → decide-path-lts.Claims

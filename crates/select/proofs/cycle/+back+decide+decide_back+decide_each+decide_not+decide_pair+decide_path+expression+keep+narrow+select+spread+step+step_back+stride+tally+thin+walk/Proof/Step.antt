@@ -11,7 +11,7 @@ use borrow.Author.Needs.{needs}
 use Rattle.meaning.specs.Table.{rows, mostRows}
 use Rattle.meaning.proofs.Marks.{no-marks, Reached, reached-start, reached-skip, reached-more, reached-done}
 use Rattle.meaning.proofs.Evaluation.{stepTo}
-use Rattle.select.proofs.Links.{lower}
+use Rattle.cover.proofs.Links.{lower}
 use Rattle.select.proofs.cycle.step.Reads as reads
 use Rattle.select.proofs.cycle.+back+decide+decide_back+decide_each+decide_not+decide_pair+decide_path+expression+keep+narrow+select+spread+step+step_back+stride+tally+thin+walk.Lts-step as lts
 use Rattle.select.proofs.cycle.+back+decide+decide_back+decide_each+decide_not+decide_pair+decide_path+expression+keep+narrow+select+spread+step+step_back+stride+tally+thin+walk.Proof.Shared.{step-at as given, step-calls as calls}

@@ -5,7 +5,7 @@ use native.Mathlib.Omega.{arith}
 use borrow.Author.Needs.{needs}
 use Rattle.meaning.specs.Table.{mostRows}
 use Rattle.meaning.proofs.Marks.{no-marks}
-use Rattle.select.proofs.Links.{lower}
+use Rattle.cover.proofs.Links.{lower}
 use Rattle.select.proofs.cycle.tally.Reads as reads
 use Rattle.select.proofs.cycle.+back+decide+decide_back+decide_each+decide_not+decide_pair+decide_path+expression+keep+narrow+select+spread+step+step_back+stride+tally+thin+walk.Lts-tally as lts
 use Rattle.select.proofs.cycle.+back+decide+decide_back+decide_each+decide_not+decide_pair+decide_path+expression+keep+narrow+select+spread+step+step_back+stride+tally+thin+walk.Proof.Shared.{tally-at as given, tally-calls as calls}

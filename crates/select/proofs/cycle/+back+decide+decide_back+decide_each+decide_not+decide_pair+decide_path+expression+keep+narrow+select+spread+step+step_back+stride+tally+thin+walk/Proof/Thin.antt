@@ -3,7 +3,7 @@
 use Prim.Native.Nat.{ℕ}
 use native.Mathlib.Omega.{arith}
 use borrow.Author.Needs.{needs}
-use Rattle.select.proofs.Links.{lower}
+use Rattle.cover.proofs.Links.{lower}
 use Rattle.sieve.proofs.Sieves.{sieved-bounded}
 use Rattle.select.proofs.Sets.{thinned-none, thinned-row, put-low}
 use Rattle.select.proofs.cycle.thin.Reads as reads

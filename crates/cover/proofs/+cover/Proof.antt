@@ -3,21 +3,21 @@
 use Prim.Native.Nat.{ℕ, _<_}
 use native.Mathlib.Omega.{arith}
 use borrow.Author.Needs.{needs}
-use Rattle.select.proofs.Links.{lower}
-use Rattle.select.proofs.Sets.{covered-none, covered-row}
+use Rattle.cover.proofs.Links.{lower}
+use Rattle.cover.proofs.Covering.{covered-none, covered-row}
 use borrow.Fn.Kinds.{In}
 use borrow.Fn.PlainCycle.{Measures, is, falls, and}
-use Rattle.select.proofs.cover.cover.Reads as cover
-use Rattle.select.proofs.cover.cover.Kinds as cover-kinds
-use Rattle.select.proofs.cover.+cover.Lts-cover as cover-lts
+use Rattle.cover.proofs.cover.Reads as cover
+use Rattle.cover.proofs.cover.Kinds as cover-kinds
+use Rattle.cover.proofs.+cover.Lts-cover as cover-lts
 use Rattle.path.proofs.first_link.Reads as first-link-reads
 use Rattle.path.proofs.index_or_axis.Reads as index-or-axis-reads
 use Rattle.path.proofs.test_at.Reads as test-at-reads
 use Rattle.reach.proofs.reach.Reads as reach-reads
 use Rattle.marks.proofs.join.Reads as join-reads
 use Rattle.marks.proofs.sift.Reads as sift-reads
-use Rattle.select.proofs.cover.+cover.{statement}
-use Rattle.select.proofs.cover.+cover.Tie.{close}
+use Rattle.cover.proofs.+cover.{statement}
+use Rattle.cover.proofs.+cover.Tie.{close}
 
 abbrev μ-cover : Measures 4 cover-kinds.ps ℕ
 μ-cover κs a = a .1 .1 .0
