@@ -1,10 +1,10 @@
--- `cases::checks_literals` meets its contract: the count lies within the literals.
+-- `limits::checks_literals` meets its contract: the count lies within the literals.
 -- Assumes nothing.
 use lib.ListN.{length-take, length-set}
 use native.Mathlib.Omega.{arith}
 use borrow.Author.Needs.{needs}
-use Rattle.cases.proofs.checks_literals.Statement.{statement}
-use Rattle.cases.proofs.checks_literals.Tie as tie
+use Rattle.limits.proofs.checks_literals.Statement.{statement}
+use Rattle.limits.proofs.checks_literals.Tie as tie
 
 mul-literals : tie.Need-mul-literals
 mul-literals c = search needs

@@ -1,11 +1,11 @@
--- `cases::large::fill_flat_table` meets its contract: the table keeps its length; what is left of the rows falls.
+-- `limits::large::fill_flat_table` meets its contract: the table keeps its length; what is left of the rows falls.
 -- Assumes nothing.
 use borrow.Author.Needs.{needs}
 use Prim.Native.Nat.{_-_}
 use lib.ListN.{length}
 use mathlib.Core.Path.{_≡_}
-use Rattle.cases.proofs.large.fill_flat_table.Statement.{statement}
-use Rattle.cases.proofs.large.fill_flat_table.Tie as tie
+use Rattle.limits.proofs.large.fill_flat_table.Statement.{statement}
+use Rattle.limits.proofs.large.fill_flat_table.Tie as tie
 
 abbrev Inv-loop : tie.InvT-loop
 Inv-loop table₀ rows i₀ table i = length table ≡ length table₀

@@ -1,10 +1,10 @@
--- `cases::show::turns` meets its contract: the room lies within the entries.
+-- `limits::show::turns` meets its contract: the room lies within the entries.
 -- Assumes nothing.
 use lib.ListN.{length-take}
 use native.Mathlib.Omega.{arith}
 use borrow.Author.Needs.{needs}
-use Rattle.cases.proofs.show.turns.Statement.{statement}
-use Rattle.cases.proofs.show.turns.Tie as tie
+use Rattle.limits.proofs.show.turns.Statement.{statement}
+use Rattle.limits.proofs.show.turns.Tie as tie
 
 least-requires : tie.Need-least-requires
 least-requires c κs = search needs

@@ -1,11 +1,11 @@
--- `cases::show::put_rows` meets its contract: the line keeps its length; what is left of the rows falls.
+-- `limits::show::put_rows` meets its contract: the line keeps its length; what is left of the rows falls.
 -- Assumes nothing.
 use borrow.Author.Needs.{needs}
 use Prim.Native.Nat.{_≤_, _-_}
 use lib.ListN.{length}
 use mathlib.Core.Path.{_≡_}
-use Rattle.cases.proofs.show.put_rows.Statement.{statement}
-use Rattle.cases.proofs.show.put_rows.Tie as tie
+use Rattle.limits.proofs.show.put_rows.Statement.{statement}
+use Rattle.limits.proofs.show.put_rows.Tie as tie
 
 abbrev Inv-loop : tie.InvT-loop
 Inv-loop line₀ used rows end₀ i₀ line end i = (i ≤ length rows) × (length line ≡ length line₀)
