@@ -1,8 +1,8 @@
 // The candidates of a step from one node: the rows of an axis that pass a test, in the order of the axis.
+use axes::holds;
+use axes::is_reverse;
+use axes::passes_test;
 use basics::both;
-use table::axes::holds;
-use table::axes::is_reverse;
-use table::axes::passes_test;
 use table::row_count;
 ghost use mathlib.Core.Path.{_≡_};
 ghost use Prim.Native.Nat.{_<_, _≤_};

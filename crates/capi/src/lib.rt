@@ -1,8 +1,8 @@
 // The C interface: the public functions, exported for a C host (include/bargetulip.h). A slice passes as a pointer and a length.
 // Each returns document 01's number and stores its place; the contracts pass on what the library promises.
-use path::check::check_path;
+use path_check::check_path;
 use select::evaluate;
-use table::check::check_table;
+use table_check::check_table;
 use turn::turn;
 use view::ends_of;
 ghost use Rattle.meaning.specs.Answers.{answer};

@@ -103,7 +103,7 @@ pub fn checks_table(name: &[u8], table: &[u32]) {
     let mut space = io::buffer();
     let line: &mut [u8] = &mut space;
     let mut used = put_name(line, name);
-    used = put_answer(line, used, table::check::check_table(table), b"row");
+    used = put_answer(line, used, table_check::check_table(table), b"row");
     write_line(line, used);
 }
 
@@ -112,7 +112,7 @@ pub fn checks_path(name: &[u8], path: &[u32], literals: &[f64]) {
     let mut space = io::buffer();
     let line: &mut [u8] = &mut space;
     let mut used = put_name(line, name);
-    used = put_answer(line, used, path::check::check_path(path, literals), b"row");
+    used = put_answer(line, used, path_check::check_path(path, literals), b"row");
     write_line(line, used);
 }
 

@@ -1,10 +1,10 @@
 // A set of nodes as marks: mark y says whether node y is in the set. Lists of nodes are the marked rows, ascending.
+use axes::passes_test;
 use basics::both;
 use basics::either;
 use basics::given;
 use basics::wide;
 use meaning::Answer;
-use table::axes::passes_test;
 use table::row_count;
 ghost use mathlib.Core.Path.{_≡_};
 ghost use mathlib.Core.Bool.{false, _||_};

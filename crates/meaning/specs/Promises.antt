@@ -14,15 +14,15 @@ use Rattle.meaning.specs.View.{begins, viewed, partOf}
 use Rattle.meaning.specs.declared.Answer.{Answer}
 use Rattle.meaning.specs.declared.Part.{Part}
 
--- `table::check::check_table`: its answer is r
+-- `table_check::check_table`: its answer is r
 abbrev pub ChecksTable : List ℕ → Answer → Type 0
 ChecksTable t r = r ≡ tableAnswer t
 
--- `table::axes::on_axis`: is y on the axis with this number of x?
+-- `axes::on_axis`: is y on the axis with this number of x?
 abbrev pub AnswersAxis : List ℕ → ℕ → ℕ → ℕ → Bool → Type 0
 AnswersAxis t axis x y r = r ≡ onAxis t axis x y
 
--- `path::check::check_path`: its answer is r
+-- `path_check::check_path`: its answer is r
 abbrev pub ChecksPath : List ℕ → List Float → Answer → Type 0
 ChecksPath p literals r = r ≡ pathAnswer p literals
 

@@ -1,4 +1,2 @@
 mod RowReads
 mod FieldKinds
-mod Passes
-mod Literals

@@ -109,5 +109,4 @@ pub fn inverse_axis(axis: usize) -> usize
     }
 }
 
-pub mod check;
 pub mod fields;

@@ -1,7 +1,5 @@
 // Reads of a node table's rows, each equal to its definition (document 01, "The node table"). A row that is read is there, so no read
-// compares. The axes and the node test stand in axes.rt, the checker in check.rt.
-pub mod axes;
-pub mod check;
+// compares. The checker stands in check.rt.
 
 use basics::wide;
 ghost use mathlib.Core.Path.{_≡_};

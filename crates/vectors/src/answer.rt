@@ -33,11 +33,11 @@ fn write_answer(answer: Answer, entries: usize, out: &[u32]) {
 }
 
 pub fn answer_check_table(table: &[u32]) {
-    write_answer(table::check::check_table(table), 0, front(table, 0));
+    write_answer(table_check::check_table(table), 0, front(table, 0));
 }
 
 pub fn answer_check_path(path: &[u32], literals: &[f64]) {
-    write_answer(path::check::check_path(path, literals), 0, front(path, 0));
+    write_answer(path_check::check_path(path, literals), 0, front(path, 0));
 }
 
 // `evaluate start room`

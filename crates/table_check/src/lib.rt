@@ -1,0 +1,122 @@
+// The table checker (document 01, "The node table" and "Numbers given back"): one pass over the rows, sums in 64 bits.
+use basics::at_most;
+use basics::both;
+use basics::either;
+use basics::given;
+use basics::same;
+use meaning::Answer;
+use meaning::MOST_ROWS;
+use table::end_at;
+use table::kind_at;
+use table::name_at;
+use table::parent_at;
+use table::row_count;
+use table::size_at;
+ghost use mathlib.Core.Path.{_≡_};
+ghost use mathlib.Core.Bool.{true};
+ghost use Prim.Native.Nat.{_+_, _<_, _≤_};
+ghost use Rattle.meaning.specs.Lists.{lowest};
+ghost use Rattle.meaning.specs.Table.{rows, mostRows, lengthAllowed, goodRoot, goodName, goodRow, broken};
+ghost use Rattle.meaning.specs.Promises.{ChecksTable};
+ghost use Rattle.table_check.specs.Next.{goodNumbers, Next, Looked};
+
+// 1 to 4,096 rows, and a multiple of 4.
+fn length_allowed(table: &[u32]) -> bool
+    ensures { λ r. ⌜ r ≡ lengthAllowed (now (table .entry)) ⌝ }
+{
+    let n = row_count(table);
+    let some_rows = both(same(table.len() % 4, 0), at_most(1, n));
+    both(some_rows, at_most(n, MOST_ROWS))
+}
+
+// Row 0: kind 0, name 0, parent 0, size rows minus 1.
+fn good_root(table: &[u32]) -> bool
+    requires { ⌜ 0 < rows (now table) ⌝ }
+    ensures { λ r. ⌜ r ≡ goodRoot (now (table .entry)) ⌝ }
+{
+    let plain = both(same(kind_at(table, 0), 0), same(name_at(table, 0), 0));
+    let placed = both(plain, same(parent_at(table, 0), 0));
+    both(placed, same(size_at(table, 0), row_count(table) - 1))
+}
+
+// A name is 1 to 65,535 for kinds 1 and 4, else 0.
+fn good_name(kind: usize, name: usize) -> bool
+    ensures { λ r. ⌜ r ≡ goodName kind name ⌝ }
+{
+    if either(same(kind, 1), same(kind, 4)) {
+        both(at_most(1, name), at_most(name, 65535))
+    } else {
+        same(name, 0)
+    }
+}
+
+// A row's own numbers: a kind from 1 to 4, a name and a size as it has them; size is 0 for kinds 2, 3, 4.
+fn good_numbers(kind: usize, name: usize, size: usize) -> bool
+    ensures { λ r. ⌜ r ≡ goodNumbers kind name size ⌝ }
+{
+    let known = both(at_most(1, kind), at_most(kind, 4));
+    let named = both(known, good_name(kind, name));
+    both(named, either(same(kind, 1), same(size, 0)))
+}
+
+// Is row i, which is not the root, as the rules have it? next has for each lower row where its next child must stand: a row is
+// well placed exactly if it stands there and ends inside its parent.
+fn good_row(table: &[u32], i: usize, next: &[u16]) -> bool
+    requires { ⌜ Looked (now table) i (now next) ⌝ }
+    ensures { λ r. ⌜ r ≡ goodRow (now (table .entry)) i ⌝ }
+{
+    let parent = parent_at(table, i);
+    if i <= parent {
+        return false;
+    }
+    let sound = good_numbers(kind_at(table, i), name_at(table, i), size_at(table, i));
+    let inside = at_most(end_at(table, i), end_at(table, parent));
+    let stands = same(next[parent] as usize, i);
+    both(sound, both(stands, inside))
+}
+
+// Row i is sound: its own first child must stand right behind it, and its parent's next one behind its subtree.
+fn pass_row(table: &[u32], i: usize, next: &mut [u16])
+    requires { ⌜ Looked (now table) i (now next) × (goodRow (now table) i ≡ true) ⌝ }
+    ensures { λ _. ⌜ Next (now (table .entry)) (i + 1) (now (next .exit)) ⌝ }
+{
+    let parent = parent_at(table, i);
+    next[i] = (i + 1) as u16;
+    next[parent] = (end_at(table, i) + 1) as u16;
+}
+
+// The lowest broken row, or the row count where there is none. The root's first child must stand at row 1.
+fn lowest_broken_row(table: &[u32]) -> usize
+    requires { ⌜ (0 < rows (now table)) × (rows (now table) ≤ mostRows) ⌝ }
+    ensures { λ r. ⌜ r ≡ lowest (broken (now (table .entry))) (rows (now (table .entry))) ⌝ }
+{
+    if !good_root(table) {
+        return 0;
+    }
+    let n = row_count(table);
+    let mut next = [1u16; MOST_ROWS];
+    let mut i = 1;
+    while i < n {
+        if !good_row(table, i, &next) {
+            return i;
+        }
+        pass_row(table, i, &mut next);
+        i += 1;
+    }
+    n
+}
+
+// 1 for a length that is not allowed, 2 with the lowest broken row, 0 with the row count.
+pub fn check_table(table: &[u32]) -> Answer
+    ensures { λ r. ⌜ ChecksTable (now (table .entry)) r ⌝ }
+{
+    if !length_allowed(table) {
+        return given(1, 0);
+    }
+    let n = row_count(table);
+    let at = lowest_broken_row(table);
+    if at < n {
+        return given(2, at);
+    }
+    given(0, n)
+}
