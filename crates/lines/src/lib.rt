@@ -1,6 +1,7 @@
-// Lines of text for the programs: a buffer is filled from the front, and written to standard output where the line ends.
-// Each function takes how much of the buffer is used and gives back how much is used then. What has no room is left out.
+// Lines of text for the programs: a buffer is filled from the front, and written to standard output where the line ends; `read` is
+// the other way. Each function here takes how much of the buffer is used and gives back how much is used then. What has no room is left out.
 pub mod output;
+pub mod read;
 
 use libc::STDOUT_FILENO;
 use output::least;

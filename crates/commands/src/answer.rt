@@ -1,0 +1,56 @@
+// The answers: each calls a public function of the library and writes what it gave as a line.
+use crate::show::Unit;
+use crate::show::write_answer;
+use crate::show::write_part;
+use lines::output::UNTOUCHED;
+use lines::output::front;
+use lines::read::count_of;
+use lines::read::number_at;
+use lines::read::read_numbers;
+use lines::read::small;
+
+// The most entries of an output slice or of a list.
+const MOST_ENTRIES: usize = 4200;
+
+pub fn answer_check_table(line: &[u8], table: &[u32]) {
+    let answer = table_check::check_table(table);
+    write_answer(line, answer, Unit::Row, 0, front(table, 0));
+}
+
+pub fn answer_check_path(line: &[u8], path: &[u32], literals: &[f64]) {
+    let answer = path_check::check_path(path, literals);
+    write_answer(line, answer, Unit::Row, 0, front(path, 0));
+}
+
+// `evaluate start room`
+pub fn answer_evaluate(line: &[u8], at: usize, table: &[u32], path: &[u32], literals: &[f64]) {
+    let start = number_at(line, at);
+    let size = number_at(line, start.next);
+    let mut space = [UNTOUCHED; MOST_ENTRIES];
+    let room = count_of(size.value, MOST_ENTRIES);
+    let out = &mut space[..room];
+    let answer = select::evaluate(table, path, literals, small(start.value), out);
+    write_answer(line, answer, Unit::Node, answer.place as usize, out);
+}
+
+// `turn room`
+pub fn answer_turn(line: &[u8], at: usize, path: &[u32], literals: &[f64]) {
+    let size = number_at(line, at);
+    let mut space = [UNTOUCHED; MOST_ENTRIES];
+    let room = count_of(size.value, MOST_ENTRIES);
+    let out = &mut space[..room];
+    let answer = turn::turn(path, literals, out);
+    write_answer(line, answer, Unit::Row, 5 * answer.place as usize, out);
+}
+
+// `view node n ...`: where the part begins, and the part itself.
+pub fn answer_view(line: &[u8], at: usize, table: &[u32]) {
+    let node = number_at(line, at);
+    let v = small(node.value);
+    let mut space = [0u32; MOST_ENTRIES];
+    let list: &mut [u32] = &mut space;
+    let count = read_numbers(line, node.next, list);
+    let entries = front(list, count);
+    let ends = view::ends_of(table, entries, v);
+    write_part(line, ends.begin, view::view(table, entries, v));
+}

@@ -1,0 +1,163 @@
+// Commands, a line each: they set a table, a path and literals, and ask the library's public functions of them. The programs answer
+// the commands of their standard input (tools/vectors/README.md has the format). Lines cost no proof, however many there are.
+mod answer;
+mod show;
+
+use answer::answer_check_path;
+use answer::answer_check_table;
+use answer::answer_evaluate;
+use answer::answer_turn;
+use answer::answer_view;
+use libc::STDIN_FILENO;
+use lines::output::front;
+use lines::read::behind;
+use lines::read::is_word;
+use lines::read::line_end;
+use lines::read::read_literals;
+use lines::read::read_numbers;
+use show::write_title;
+
+// The commands that there are.
+enum Command {
+    Title,
+    Table,
+    Literals,
+    Path,
+    CheckTable,
+    CheckPath,
+    Evaluate,
+    Turn,
+    View,
+    Unknown,
+}
+
+fn command_of(line: &[u8]) -> Command {
+    if is_word(line, b"title") {
+        return Command::Title;
+    }
+    if is_word(line, b"table") {
+        return Command::Table;
+    }
+    if is_word(line, b"literals") {
+        return Command::Literals;
+    }
+    if is_word(line, b"path") {
+        return Command::Path;
+    }
+    question_of(line)
+}
+
+// The command of a line that asks.
+fn question_of(line: &[u8]) -> Command {
+    if is_word(line, b"check_table") {
+        return Command::CheckTable;
+    }
+    if is_word(line, b"check_path") {
+        return Command::CheckPath;
+    }
+    if is_word(line, b"evaluate") {
+        return Command::Evaluate;
+    }
+    if is_word(line, b"turn") {
+        return Command::Turn;
+    }
+    if is_word(line, b"view") {
+        return Command::View;
+    }
+    Command::Unknown
+}
+
+// Room for what a line may set.
+const MOST_TEXT: usize = 2097152;
+
+const MOST_TABLE: usize = 16400;
+
+const MOST_PATH: usize = 1300;
+
+const MOST_LITERALS: usize = 66;
+
+// The lengths of the current table, path and literals.
+struct Lengths {
+    table: usize,
+    path: usize,
+    literals: usize,
+}
+
+// The first n literals, or all where there are fewer.
+fn front_literals(s: &[f64], n: usize) -> &[f64] {
+    if n < s.len() { &s[..n] } else { s }
+}
+
+// A line that asks: it is answered. A title is written as it is.
+fn answer_line(
+    line: &[u8],
+    at: usize,
+    command: Command,
+    table: &[u32],
+    path: &[u32],
+    literals: &[f64],
+) {
+    match command {
+        Command::Title => write_title(line, at),
+        Command::CheckTable => answer_check_table(line, table),
+        Command::CheckPath => answer_check_path(line, path, literals),
+        Command::Evaluate => answer_evaluate(line, at, table, path, literals),
+        Command::Turn => answer_turn(line, at, path, literals),
+        Command::View => answer_view(line, at, table),
+        _ => {}
+    }
+}
+
+// A line that sets stores what it sets; any other is answered.
+fn run_line(
+    line: &[u8],
+    lengths: Lengths,
+    table: &mut [u32],
+    path: &mut [u32],
+    literals: &mut [f64],
+) -> Lengths {
+    let mut next = lengths;
+    let at = behind(line, b' ');
+    let command = command_of(line);
+    match command {
+        Command::Table => next.table = read_numbers(line, at, table),
+        Command::Path => next.path = read_numbers(line, at, path),
+        Command::Literals => next.literals = read_literals(line, at, literals),
+        _ => answer_line(
+            line,
+            at,
+            command,
+            front(table, lengths.table),
+            front(path, lengths.path),
+            front_literals(literals, lengths.literals),
+        ),
+    }
+    next
+}
+
+fn run_lines(text: &[u8]) {
+    let mut table_space = [0u32; MOST_TABLE];
+    let mut path_space = [0u32; MOST_PATH];
+    let mut literal_space = [0.0f64; MOST_LITERALS];
+    let table: &mut [u32] = &mut table_space;
+    let path: &mut [u32] = &mut path_space;
+    let literals: &mut [f64] = &mut literal_space;
+    let mut lengths = Lengths {
+        table: 0,
+        path: 0,
+        literals: 0,
+    };
+    let mut begin = 0;
+    while begin < text.len() {
+        let end = line_end(text, begin);
+        lengths = run_line(&text[begin..end], lengths, table, path, literals);
+        begin = end + 1;
+    }
+}
+
+// What a program does: it answers the commands of its standard input.
+pub fn run_standard_input() {
+    let mut text = [0u8; MOST_TEXT];
+    let count = io::read_full(STDIN_FILENO, &mut text);
+    run_lines(&text[..count]);
+}

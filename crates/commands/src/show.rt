@@ -1,0 +1,172 @@
+// What is written: an answer as bare numbers, or for a line with a name the name and the answer in words.
+use lines::output::front;
+use lines::output::is_changed;
+use lines::output::written;
+use lines::pad_to;
+use lines::put_byte;
+use lines::put_number;
+use lines::put_numbers;
+use lines::put_text;
+use lines::read::behind;
+use lines::read::from;
+use lines::read::small;
+use lines::write_line;
+use meaning::Answer;
+
+// Where the answers of lines with names begin.
+const COLUMN: usize = 72;
+
+// What the place counts on 0.
+pub enum Unit {
+    Row,
+    Node,
+}
+
+// The name of a line: what stands behind its first colon and a space, nothing where it has none.
+fn name_of(line: &[u8]) -> &[u8] {
+    let colon = from(line, behind(line, b':'));
+    from(colon, 1)
+}
+
+// The name, if there is one, up to the column of the answers.
+fn put_name(out: &mut [u8], name: &[u8]) -> usize {
+    if name.len() == 0 {
+        return 0;
+    }
+    let used = put_text(out, 0, name);
+    pad_to(out, used, COLUMN)
+}
+
+// A line of text alone.
+pub fn write_title(line: &[u8], at: usize) {
+    let mut space = io::large_buffer();
+    let out: &mut [u8] = &mut space;
+    let used = put_text(out, 0, from(line, at));
+    write_line(out, used);
+}
+
+fn put_unit(out: &mut [u8], used: usize, unit: Unit) -> usize {
+    match unit {
+        Unit::Row => put_text(out, used, b" row"),
+        Unit::Node => put_text(out, used, b" node"),
+    }
+}
+
+// So many of something.
+fn put_count(out: &mut [u8], used: usize, n: u32, unit: Unit) -> usize {
+    let number = put_number(out, used, n);
+    let end = put_unit(out, number, unit);
+    if n == 1 {
+        return end;
+    }
+    put_byte(out, end, b's')
+}
+
+// What stands before and behind a field of a row.
+fn put_opening(out: &mut [u8], used: usize, field: usize) -> usize {
+    if field == 0 {
+        return put_text(out, used, b" (");
+    }
+    put_byte(out, used, b',')
+}
+
+fn put_closing(out: &mut [u8], used: usize, field: usize) -> usize {
+    if field == 4 {
+        return put_byte(out, used, b')');
+    }
+    used
+}
+
+// The rows of a path, each in parentheses.
+fn put_rows(out: &mut [u8], used: usize, rows: &[u32]) -> usize {
+    let mut end = used;
+    let mut i = 0;
+    while i < rows.len() {
+        end = put_opening(out, end, i % 5);
+        end = put_number(out, end, rows[i]);
+        end = put_closing(out, end, i % 5);
+        i += 1;
+    }
+    end
+}
+
+// How many there are, and then each.
+fn put_entries(out: &mut [u8], used: usize, n: u32, unit: Unit, entries: &[u32]) -> usize {
+    let mut end = put_count(out, used, n, unit);
+    if entries.len() == 0 {
+        return end;
+    }
+    end = put_byte(out, end, b':');
+    match unit {
+        Unit::Row => put_rows(out, end, entries),
+        Unit::Node => put_numbers(out, end, entries),
+    }
+}
+
+// The answer in words: the number, then for 0 how many and for any other the place.
+fn put_words(out: &mut [u8], used: usize, answer: Answer, unit: Unit, entries: &[u32]) -> usize {
+    let mut end = put_number(out, used, answer.number);
+    end = put_text(out, end, b"  ");
+    if answer.number == 0 {
+        return put_entries(out, end, answer.place, unit, entries);
+    }
+    end = put_text(out, end, b"place ");
+    put_number(out, end, answer.place)
+}
+
+// `number place`, and the entries.
+fn put_bare(out: &mut [u8], used: usize, answer: Answer, entries: &[u32]) -> usize {
+    let mut end = put_number(out, used, answer.number);
+    end = put_byte(out, end, b' ');
+    end = put_number(out, end, answer.place);
+    put_numbers(out, end, entries)
+}
+
+// What the call may not write: all of its output where it refused, else what lies behind the entries that it wrote.
+fn put_rest(out: &mut [u8], used: usize, told: bool, count: usize, output: &[u32]) -> usize {
+    if is_changed(output, count) {
+        return put_text(out, used, b" changed");
+    }
+    if told && output.len() != 0 {
+        return put_text(out, used, b", nothing written");
+    }
+    used
+}
+
+// An answer, whose call may have written so many numbers on 0 and none where it refused.
+pub fn write_answer(line: &[u8], answer: Answer, unit: Unit, numbers: usize, output: &[u32]) {
+    let mut space = io::large_buffer();
+    let out: &mut [u8] = &mut space;
+    let count = written(answer.number, numbers);
+    let entries = front(output, count);
+    let name = name_of(line);
+    let mut used = put_name(out, name);
+    if name.len() == 0 {
+        used = put_bare(out, used, answer, entries);
+    } else {
+        used = put_words(out, used, answer, unit, entries);
+    }
+    let told = name.len() != 0 && answer.number != 0;
+    used = put_rest(out, used, told, count, output);
+    write_line(out, used);
+}
+
+// A view's part: where it begins, how long it is and its entries, or `empty`; with a name the entries alone.
+pub fn write_part(line: &[u8], begin: usize, part: &[u32]) {
+    let mut space = io::large_buffer();
+    let out: &mut [u8] = &mut space;
+    let name = name_of(line);
+    let mut used = put_name(out, name);
+    if part.len() == 0 {
+        used = put_text(out, used, b"empty");
+    } else if name.len() == 0 {
+        used = put_number(out, used, small(begin as u64));
+        used = put_byte(out, used, b' ');
+        used = put_number(out, used, small(part.len() as u64));
+        used = put_numbers(out, used, part);
+    } else {
+        used = put_text(out, used, b"part");
+        used = put_numbers(out, used, part);
+    }
+    write_line(out, used);
+}
