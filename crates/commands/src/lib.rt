@@ -9,7 +9,9 @@ use answer::answer_evaluate;
 use answer::answer_turn;
 use answer::answer_view;
 use libc::STDIN_FILENO;
+use lines::output::copy;
 use lines::output::front;
+use lines::output::written;
 use lines::read::behind;
 use lines::read::is_word;
 use lines::read::line_end;
@@ -23,6 +25,7 @@ enum Command {
     Table,
     Literals,
     Path,
+    Turned,
     CheckTable,
     CheckPath,
     Evaluate,
@@ -43,6 +46,9 @@ fn command_of(line: &[u8]) -> Command {
     }
     if is_word(line, b"path") {
         return Command::Path;
+    }
+    if is_word(line, b"turned") {
+        return Command::Turned;
     }
     question_of(line)
 }
@@ -88,6 +94,15 @@ fn front_literals(s: &[f64], n: usize) -> &[f64] {
     if n < s.len() { &s[..n] } else { s }
 }
 
+// The path becomes what turning it gives, and empty where that is refused; its length.
+fn take_turned(path: &mut [u32], length: usize, literals: &[f64]) -> usize {
+    let mut space = [0u32; MOST_PATH];
+    let out: &mut [u32] = &mut space;
+    let answer = turn::turn(front(path, length), literals, out);
+    let count = written(answer.number, 5 * answer.place as usize);
+    copy(front(out, count), path)
+}
+
 // A line that asks: it is answered. A title is written as it is.
 fn answer_line(
     line: &[u8],
@@ -123,6 +138,13 @@ fn run_line(
         Command::Table => next.table = read_numbers(line, at, table),
         Command::Path => next.path = read_numbers(line, at, path),
         Command::Literals => next.literals = read_literals(line, at, literals),
+        Command::Turned => {
+            next.path = take_turned(
+                path,
+                lengths.path,
+                front_literals(literals, lengths.literals),
+            )
+        }
         _ => answer_line(
             line,
             at,

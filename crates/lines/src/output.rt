@@ -21,6 +21,16 @@ pub fn written(number: u32, entries: usize) -> usize {
     if number == 0 { entries } else { 0 }
 }
 
+// Copies entries from the front, as many as both slices hold, and gives their count.
+pub fn copy(from: &[u32], into: &mut [u32]) -> usize {
+    let mut i = 0;
+    while i < from.len() && i < into.len() {
+        into[i] = from[i];
+        i += 1;
+    }
+    i
+}
+
 // Has an entry from an index on changed?
 pub fn is_changed(out: &[u32], from: usize) -> bool {
     let mut i = from;

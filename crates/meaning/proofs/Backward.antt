@@ -19,11 +19,11 @@ use Rattle.meaning.specs.Rows as R
 use Rattle.meaning.specs.Tree.{Tree, none, node, tree, indexOrAxis, testAt}
 use Rattle.meaning.specs.Meaning.{applied, isAbsolute, startOf, value, select, walk}
 use Rattle.meaning.specs.Turning.{counting, counts, inverseOf}
-use Rattle.meaning.proofs.Bools.{or-none-l, or-none-r, eqb-sym}
+use Rattle.meaning.proofs.Bools.{or-none-l, or-none-r}
 use Rattle.meaning.proofs.Lists.{some-same}
 use Rattle.meaning.proofs.Decoding.{op-is}
 use Rattle.meaning.proofs.Trees.{tree-zero, tree-row}
-use Rattle.meaning.proofs.Windows.{some-below, some-or, some-and, some-keep, some-at}
+use Rattle.meaning.proofs.Windows.{some-below, some-or, some-and, some-keep, some-one}
 use Rattle.meaning.proofs.Free.{true-at, ok, fits, free-walk}
 use Rattle.meaning.proofs.Turning.{inverse-on}
 
@@ -81,9 +81,7 @@ module _ (t : List ℕ) (literals : List Float) where
       rw relative
       (sym (some-all (walk t literals s start))
       ∙ walk-back s h (λ z. true) start
-      ∙ some-keep (backs s (λ z. true)) (eqb y) (upTo (rows t))
-      ∙ some-same (λ x. eqb y x && backs s (λ z. true) x) (λ x. backs s (λ z. true) x && eqb x y) (upTo (rows t)) (λ x. rw (eqb-sym y x) (and-comm (eqb x y) (backs s (λ z. true) x)))
-      ∙ some-at (backs s (λ z. true)) (rows t) y l)
+      ∙ some-one (backs s (λ z. true)) (rows t) y l)
 
   -- one step back from the good nodes that fit
   pub before-by : (c d : ℕ) (e : Tree) (good fit : ℕ → Bool) → ((z : ℕ) → z < rows t → fit z ≡ (good z && fits t literals (testOf d) e z)) → (w : ℕ) → some (λ z. fit z && on t (axisOf (inverseOf c)) z w) (upTo (rows t)) ≡ before c d e good w

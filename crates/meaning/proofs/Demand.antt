@@ -232,3 +232,9 @@ module _ (p : List ℕ) (literals : List Float) where
       let o : opAt p r ≡ R.relative = relative-is (opAt p r) (top-is-path p (length literals) (h .good .0)) (sym (ap absolutePath e) ∙ h .not-absolute) in
       let k : counts s ≡ false = sym (first-counting s) ∙ ap (ltb 0) (sym (ap countingStep e) ∙ h .none-counts) in
       round-of s b (indexOrAxis p r) (testAt p r) (e ∙ ap (λ (v : Op). node v s b (indexOrAxis p r) (testAt p r)) o) k (h .few) (h .good)
+
+-- where the turned rows are turned again, the rows turned twice select y from x exactly when the path does, on every table
+pub turned-twice : (p : List ℕ) (literals : List Float) (room again : ℕ) → turning p literals room .number ≡ 0 → turning (turnedRows p) literals again .number ≡ 0
+    → (t : List ℕ) (x y : ℕ) → x < rows t → y < rows t → has (selected t (turnedRows (turnedRows p)) literals x) y ≡ has (selected t p literals x) y
+turned-twice p literals room again given given-again t x y h k =
+    sym (demand-three p literals room given .round t x y h k ∙ demand-three (turnedRows p) literals again given-again .round t y x k h)

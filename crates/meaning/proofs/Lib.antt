@@ -22,6 +22,7 @@ pub mod Numbers
 pub mod Evaluation
 pub mod Outcome
 pub mod Selected
+pub mod Parts
 pub mod Backward
 pub mod Near
 pub mod View

@@ -187,6 +187,15 @@ keep-keep p q (x ∷ xs) = go (p x) (keep-keep p q xs)
     go true h = rw h
     go false h = h
 
+pub keep-shorter : (p : ℕ → Bool) (l : List ℕ) → length (keep p l) ≤ length l
+unfolding keep
+keep-shorter p [] = omega arith
+keep-shorter p (x ∷ xs) = by (p x) (keep-shorter p xs)
+  where
+    by : (b : Bool) → length (keep p xs) ≤ length xs → length (cond b (x ∷ keep p xs) (keep p xs)) ≤ suc (length xs)
+    by true h = omega arith
+    by false h = omega arith
+
 -- a test that does not look at the position
 pub keepAt-free : (f : ℕ → ℕ → Bool) (g : ℕ → Bool) → ((y i : ℕ) → f y i ≡ g y) → (i : ℕ) (l : List ℕ) → keepAt f i l ≡ keep g l
 unfolding keep keepAt

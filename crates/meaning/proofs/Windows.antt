@@ -4,7 +4,7 @@
 use Prim.Native.Nat.{ℕ, zero, suc, _+_, _-_, _<_, _≤_}
 use mathlib.Core.Path.{_≡_, refl, sym, ap, _∙_}
 use mathlib.Core.Logic.{⊎-elim}
-use mathlib.Core.Bool.{Bool, true, false, _&&_, _||_, cond, and-true, and-false, or-true, or-false, and-or-distrib-left, and-or-distrib-right}
+use mathlib.Core.Bool.{Bool, true, false, _&&_, _||_, cond, and-true, and-false, and-comm, or-true, or-false, and-or-distrib-left, and-or-distrib-right}
 use mathlib.Core.List.{List, [], _∷_, _++_}
 use lib.Dec.{leb, ltb, eqb}
 use native.Mathlib.Omega.{arith}
@@ -13,7 +13,7 @@ use Rattle.meaning.specs.Lists.{keep, some, upTo}
 use Rattle.meaning.specs.Table.{end}
 use Rattle.meaning.specs.Axis.{inside, on}
 use Rattle.meaning.specs.Axis as A
-use Rattle.meaning.proofs.Bools.{lt-or-ge, eq-or-ne}
+use Rattle.meaning.proofs.Bools.{eqb-sym, lt-or-ge, eq-or-ne}
 use Rattle.meaning.proofs.Lists.{some-append, some-same, some-last, none-below}
 
 -- ---- some number of a window
@@ -62,6 +62,13 @@ some-at f (suc n) k h =
     let z : some (λ x. f x && eqb x k) (upTo n) ≡ false = none-below (λ x. f x && eqb x k) n (λ x m. rw (ne-eqb x k (λ e. absurd (omega arith))) (and-false (f x))) in
     rw (z, e, eq-eqb k k refl, and-true (f k)))
     (lt-or-ge k n)
+
+-- what is kept is the one number k
+pub some-one : (f : ℕ → Bool) (n k : ℕ) → k < n → some f (keep (eqb k) (upTo n)) ≡ f k
+some-one f n k h =
+    some-keep f (eqb k) (upTo n)
+    ∙ some-same (λ x. eqb k x && f x) (λ x. f x && eqb x k) (upTo n) (λ x. rw (eqb-sym k x) (and-comm (eqb x k) (f x)))
+    ∙ some-at f n k h
 
 -- the number k, or others
 pub some-at-or : (f g : ℕ → Bool) (n k : ℕ) → k < n → some (λ x. f x && (eqb x k || g x)) (upTo n) ≡ (f k || some (λ x. f x && g x) (upTo n))

@@ -1,15 +1,16 @@
--- The reference tree and R1 to R13 (document 01, "The reference tree"), as a single table under a single statement.
+-- The reference tree and R1 to R13 (document 01, "The reference tree"), and behind them a request's own cases (document 02), as a single
+-- table under a single statement.
 -- Assumes nothing: each answer is computed from the definitions.
 use Prim.Native.Nat.{ℕ}
 use mathlib.Core.Path.{_≡_, refl}
 use mathlib.Core.List.{List, [], _∷_, _++_}
-use lib.ListN.{length, drop}
+use lib.ListN.{length, drop, replicate}
 use lib.Ieee.{Float, binary64, ofBits}
 use lib.Ieee as Ieee
 use Rattle.meaning.specs.Lists.{upTo, downFrom, keep, some, lowest}
 use Rattle.meaning.specs.Table.{lengthAllowed, goodRoot, goodName, goodSize, nearest, goodParent, goodRow, broken}
 use Rattle.meaning.specs.Axis.{axisOf, inside, on, testOf, passes, isReverse, ordered, candidates}
-use Rattle.meaning.specs.Rows.{pathLengthAllowed, badLiteral, badLiteralAt, opOf, fieldsOf, code, isNumber, isTruth, isPath, isStep, isPredicate, isLiteral, isUnknown, isLink, takes, mayMiss, goodLink, goodTest, goodField, goodFields, follow, firstLink, secondLink, links, linkedBelow, linksAgain, misplaced, brokenRow}
+use Rattle.meaning.specs.Rows.{rowsOf, pathLengthAllowed, badLiteral, badLiteralAt, opOf, fieldsOf, code, isNumber, isTruth, isPath, isStep, isPredicate, isLiteral, isUnknown, isLink, takes, mayMiss, goodLink, goodTest, goodField, goodFields, follow, firstLink, secondLink, links, linkedBelow, linksAgain, misplaced, brokenRow}
 use Rattle.meaning.specs.Tree.{indexOrAxis, testAt, linked, tree, depth}
 use Rattle.meaning.specs.Meaning.{float, nonzero, applied, keepAt, isAbsolute, startOf, union, value, select, walk, filtered}
 use Rattle.meaning.specs.Turning.{contextual, overPath, numeric, asks, counting, steps, counts, firstCounting, inverseOf, predicates, test, back, turned, weight, link, row, written}
@@ -44,7 +45,7 @@ pub data Case : Type 0 where
 
 -- what the output slice holds before the run
 abbrev pub blank : List ℕ
-blank = 99 ∷ 99 ∷ 99 ∷ 99 ∷ 99 ∷ 99 ∷ 99 ∷ 99 ∷ 99 ∷ 99 ∷ 99 ∷ 99 ∷ 99 ∷ 99 ∷ 99 ∷ 99 ∷ 99 ∷ 99 ∷ 99 ∷ 99 ∷ 99 ∷ []
+blank = replicate 26 99
 
 -- number, place and the output slice
 abbrev pub outcome : Answer → List ℕ → List ℕ
@@ -56,10 +57,10 @@ given (selects p literals start nodes) =
     outcome (evaluation reference p literals start (length blank)) (evaluated reference p literals start blank)
 given (turns p rows) = outcome (turning p [] (length blank)) (turnedOutput p [] blank)
 
--- what document 01 lists
+-- what the documents list
 unfoldable pub listed : Case → List ℕ
 listed (selects p literals start nodes) = 0 ∷ length nodes ∷ nodes ++ drop (length nodes) blank
-listed (turns p rows) = 0 ∷ 4 ∷ rows ++ drop (length rows) blank
+listed (turns p rows) = 0 ∷ rowsOf rows ∷ rows ++ drop (length rows) blank
 
 unfoldable pub each : (Case → List ℕ) → List Case → List (List ℕ)
 each f [] = []
@@ -72,6 +73,10 @@ thirteenth = line 24 0 0 1 18 (line 24 1 0 1 20 (line 22 2 0 0 0 []))
 abbrev pub thirteenthTurned : List ℕ
 thirteenthTurned = line 24 0 0 0 20 (line 24 1 0 2 18 (line 24 2 0 2 0 (line 22 3 0 0 0 [])))
 
+-- and turned twice: self::node()/child::2/child::4/self::node()
+abbrev pub thirteenthTwice : List ℕ
+thirteenthTwice = line 24 0 0 0 0 (line 24 1 0 1 18 (line 24 2 0 1 20 (line 24 3 0 0 0 (line 22 4 0 0 0 []))))
+
 abbrev pub half : Float
 half = ofBits binary64 0x3FE0000000000000
 
@@ -82,6 +87,7 @@ half = ofBits binary64 0x3FE0000000000000
 -- R9 from 6, child::*[1][2], child::*[position() > 1][1], child::*[position() > 1][last()]
 -- R10 from 1, child::*[count(child::4) = 2] ; R11 from 1, child::*[0 div 0 != 0 div 0]
 -- R12 from 1, parent::*, parent::node() ; R13 turned, from 1, and turned from 8
+-- W-208: R13 turned twice, and from 1
 abbrev pub cases : List Case
 cases =
     selects (line 23 0 0 0 0 []) [] 5 (0 ∷ [])
@@ -119,9 +125,11 @@ cases =
     ∷ turns thirteenth thirteenthTurned
     ∷ selects thirteenth [] 1 (5 ∷ 8 ∷ 9 ∷ [])
     ∷ selects thirteenthTurned [] 8 (1 ∷ [])
+    ∷ turns thirteenthTurned thirteenthTwice
+    ∷ selects thirteenthTwice [] 1 (5 ∷ 8 ∷ 9 ∷ [])
     ∷ []
 
--- the definitions give what document 01 lists
+-- the definitions give what the documents list
 pub r1-to-r13 : each given cases ≡ each listed cases
 unfolding each given listed upTo downFrom keep some lowest lengthAllowed goodRoot goodName goodSize nearest goodParent goodRow broken axisOf inside on testOf passes isReverse ordered candidates pathLengthAllowed badLiteral badLiteralAt opOf fieldsOf code isNumber isTruth isPath isStep isPredicate isLiteral isUnknown isLink takes mayMiss goodLink goodTest goodField goodFields follow firstLink secondLink links linkedBelow linksAgain misplaced brokenRow indexOrAxis testAt linked tree depth float nonzero applied keepAt isAbsolute startOf union value select walk filtered contextual overPath numeric asks counting steps counts firstCounting inverseOf predicates test back turned weight link row written tableChecks pathChecks evaluation output evaluated countingStep absolutePath turning turnedOutput Ieee.isNan Ieee.toBits Ieee.ofBits Ieee.ofInt Ieee.eq Ieee.ne Ieee.lt Ieee.le Ieee.add Ieee.sub Ieee.mul Ieee.div Ieee.rem Ieee.neg
 r1-to-r13 = refl

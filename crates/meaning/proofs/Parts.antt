@@ -1,0 +1,125 @@
+-- The five parts of the tree (document 02, W-208): self, ancestors, descendants, what precedes and what follows hold every node once,
+-- as axes and as what evaluation answers for them; and each -or-self axis is the union of its two parts.
+-- Assumes nothing.
+use Prim.Native.Nat.{ℕ, _<_, _≤_}
+use mathlib.Core.Path.{_≡_, refl, sym, ap, _∙_}
+use mathlib.Core.Logic.{inl, inr}
+use mathlib.Core.Bool.{Bool, true, false, _||_, not, cond}
+use mathlib.Core.List.{List, [], _∷_, map}
+use lib.ListN.{length, take}
+use lib.Dec.{leb}
+use lib.Ieee.{Float}
+use lib.Seq.{take-append-seam}
+use native.Mathlib.Omega.{arith}
+use borrow.Author.Tests.{lt-ltb, le-ltb, eq-eqb, ne-eqb, le-leb}
+use Rattle.meaning.specs.Lists.{keep, some, upTo, has}
+use Rattle.meaning.specs.Table.{rows, end, accepted}
+use Rattle.meaning.specs.Axis.{Axis, axisOf, inside, on, onAxis, testOf, passes, candidates}
+use Rattle.meaning.specs.Axis as A
+use Rattle.meaning.specs.Answers.{answer, pathTree, pathChecks, pathAnswer, selected, evaluation, output, evaluated}
+use Rattle.meaning.specs.Rows.{pathLengthAllowed, opOf, fieldsOf, code, isPath, isStep, isPredicate, isLiteral, isUnknown, isLink, takes, mayMiss, goodLink, goodTest, goodField, goodFields, follow, firstLink, secondLink, links, linkedBelow, linksAgain, misplaced, brokenRow}
+use Rattle.meaning.specs.Rows as R
+use Rattle.meaning.specs.Tree.{none, node, indexOrAxis, testAt, linked, tree, depth}
+use Rattle.meaning.specs.Meaning.{isAbsolute, startOf, union, select, walk, filtered}
+use Rattle.meaning.specs.Cases.{line}
+use Rattle.meaning.specs.declared.Answer.{Answer}
+use Rattle.meaning.proofs.Bools.{lt-or-ge, same}
+use Rattle.meaning.proofs.Lists.{has-keep-to, has-keep-from, has-upTo-from, length-upTo, keep-upTo, keep-shorter}
+use Rattle.meaning.proofs.Axes.{candidate-to, candidate-from}
+use Rattle.meaning.proofs.Windows.{some-one}
+use Rattle.meaning.proofs.Exactly.{selects, evaluation-exactly}
+use Rattle.meaning.proofs.Checks.{path-accepted}
+
+-- ---- exactly one of five
+
+-- self, ancestor, descendant, preceding and following, by their numbers
+abbrev pub fiveParts : List ℕ
+fiveParts = 0 ∷ 4 ∷ 3 ∷ 8 ∷ 7 ∷ []
+
+pub five-names : map axisOf fiveParts ≡ A.self ∷ A.ancestor ∷ A.descendant ∷ A.preceding ∷ A.following ∷ []
+unfolding axisOf
+five-names = refl
+
+one-of-two : (b : Bool) (m n : ℕ) → length (cond b (m ∷ cond (not b) (n ∷ []) []) (cond (not b) (n ∷ []) [])) ≡ 1
+one-of-two true m n = refl
+one-of-two false m n = refl
+
+-- y lies on exactly one of them, of x: those on which it lies are one in number. It needs neither an accepted table nor nodes: of two
+-- numbers one is below the other, or they are equal, and `inside` parts the later ones, and the earlier ones, in two
+pub five-parts : (t : List ℕ) (x y : ℕ) → length (keep (λ axis. onAxis t axis x y) fiveParts) ≡ 1
+unfolding onAxis axisOf on inside keep
+five-parts t x y = elim (lt-or-ge x y) [
+  | inl l ↦ rw (ne-eqb x y (λ e. omega arith), lt-ltb x y l, le-ltb y x (omega arith)) (one-of-two (leb y (end t x)) 3 7)
+  | inr g ↦ elim (lt-or-ge y x) [
+    | inl l ↦ rw (ne-eqb x y (λ e. omega arith), le-ltb x y g, lt-ltb y x l) (one-of-two (leb x (end t y)) 4 8)
+    | inr h ↦ rw (eq-eqb x y (omega arith), le-ltb x y g, le-ltb y x h)
+  ]
+]
+
+-- ---- -or-self
+
+-- the -or-self axis of an axis
+pub data OrSelf : Axis → Axis → Type 0 where
+  descendants : OrSelf A.descendant A.descendant-or-self
+  ancestors : OrSelf A.ancestor A.ancestor-or-self
+
+-- it is the union of self and that axis, on every table and for any two numbers
+pub or-self-is-union : {axis or-self : Axis} → OrSelf axis or-self → (t : List ℕ) (x y : ℕ) → on t or-self x y ≡ (on t A.self x y || on t axis x y)
+unfolding on
+or-self-is-union descendants t x y = refl
+or-self-is-union ancestors t x y = refl
+
+-- ---- the five answers
+
+-- the path of one step: any node on the axis with this number
+abbrev pub axisPath : ℕ → List ℕ
+axisPath axis = line 24 0 0 axis 0 (line 22 1 0 0 0 [])
+
+-- what evaluation of that path from x writes to the output: its front, as long as the place says
+abbrev pub answered : List ℕ → ℕ → ℕ → List ℕ → List ℕ
+answered t axis x out = take (evaluation t (axisPath axis) [] x (length out) .place) (evaluated t (axisPath axis) [] x out)
+
+axis-path-good : (axis : ℕ) → axis ≤ 10 → pathAnswer (axisPath axis) [] ≡ answer 0 2
+unfolding pathAnswer pathChecks some upTo pathLengthAllowed opOf fieldsOf code isPath isStep isPredicate isLiteral isUnknown isLink takes mayMiss goodLink goodTest goodField goodFields follow firstLink secondLink links linkedBelow linksAgain misplaced brokenRow indexOrAxis testAt linked tree depth
+axis-path-good axis h = rw (le-leb axis 10 h)
+
+axis-path-tree : (axis : ℕ) → pathTree (axisPath axis) ≡ node R.relative (node R.step none none axis 0) none 0 0
+unfolding tree opOf linked fieldsOf isLink isLiteral isStep code follow firstLink secondLink indexOrAxis testAt
+axis-path-tree axis = refl
+
+module _ (t : List ℕ) (axis x : ℕ) (h : axis ≤ 10) (below : x < rows t) where
+  -- it selects the nodes on the axis
+  axis-path-selects : selected t (axisPath axis) [] x ≡ keep (onAxis t axis x) (upTo (rows t))
+  unfolding select walk union startOf filtered isAbsolute code onAxis testOf passes
+  axis-path-selects = rw (axis-path-tree axis) (keep-upTo _ _ (rows t) (λ y l.
+      some-one (λ z. has (candidates t (axisOf axis) A.any-node z) y) (rows t) x below
+      ∙ rw (le-leb axis 10 h)
+      (same (has (candidates t (axisOf axis) A.any-node x) y) (on t (axisOf axis) x y)
+      (λ k. candidate-to t (axisOf axis) A.any-node x y k .0)
+      (λ k. candidate-from t (axisOf axis) A.any-node x y k tt l))))
+
+  module _ (acc : accepted t ≡ true) (out : List ℕ) (room : rows t ≤ length out) where
+    -- where there is room for every node it is answered 0, and the nodes are written
+    axis-path-answered : evaluation t (axisPath axis) [] x (length out) ≡ answer 0 (length (selected t (axisPath axis) [] x))
+    axis-path-answered =
+        evaluation-exactly t (axisPath axis) [] x (length out) _ .1
+        (selects acc (path-accepted (axisPath axis) [] (ap (λ (a : Answer). a .number) (axis-path-good axis h))) below
+        (rw axis-path-selects (omega (arith, keep-shorter (onAxis t axis x) (upTo (rows t)), length-upTo (rows t)))))
+
+    answered-nodes : answered t axis x out ≡ selected t (axisPath axis) [] x
+    unfolding evaluated output
+    answered-nodes = rw axis-path-answered (take-append-seam (selected t (axisPath axis) [] x) _)
+
+    answered-has : (y : ℕ) → y < rows t → has (answered t axis x out) y ≡ onAxis t axis x y
+    answered-has y l = rw (answered-nodes, axis-path-selects)
+        (same (has (keep (onAxis t axis x) (upTo (rows t))) y) (onAxis t axis x y)
+        (λ k. has-keep-to (onAxis t axis x) (upTo (rows t)) y k .0)
+        (λ k. has-keep-from (onAxis t axis x) (upTo (rows t)) y k (has-upTo-from (rows t) y l)))
+
+-- with room for every node the five answers from x together list every node once: each is in exactly one of them
+pub five-answers : (t : List ℕ) → accepted t ≡ true → (x : ℕ) → x < rows t → (out : List ℕ) → rows t ≤ length out
+    → (y : ℕ) → y < rows t → length (keep (λ axis. has (answered t axis x out) y) fiveParts) ≡ 1
+unfolding keep
+five-answers t acc x h out room y l =
+    let lies : (axis : ℕ) → axis ≤ 10 → has (answered t axis x out) y ≡ onAxis t axis x y = λ axis k. answered-has t axis x k h acc out room y l in
+    rw (lies 0 (omega arith), lies 4 (omega arith), lies 3 (omega arith), lies 8 (omega arith), lies 7 (omega arith)) (five-parts t x y)
