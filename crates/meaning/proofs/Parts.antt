@@ -2,13 +2,12 @@
 -- as axes and as what evaluation answers for them; and each -or-self axis is the union of its two parts.
 -- Assumes nothing.
 use Prim.Native.Nat.{ℕ, _<_, _≤_}
-use mathlib.Core.Path.{_≡_, refl, sym, ap, _∙_}
+use mathlib.Core.Path.{_≡_, refl, ap, _∙_}
 use mathlib.Core.Logic.{inl, inr}
 use mathlib.Core.Bool.{Bool, true, false, _||_, not, cond}
 use mathlib.Core.List.{List, [], _∷_, map}
 use lib.ListN.{length, take}
 use lib.Dec.{leb}
-use lib.Ieee.{Float}
 use lib.Seq.{take-append-seam}
 use native.Mathlib.Omega.{arith}
 use borrow.Author.Tests.{lt-ltb, le-ltb, eq-eqb, ne-eqb, le-leb}
@@ -17,7 +16,7 @@ use Rattle.meaning.specs.Table.{rows, end, accepted}
 use Rattle.meaning.specs.Axis.{Axis, axisOf, inside, on, onAxis, testOf, passes, candidates}
 use Rattle.meaning.specs.Axis as A
 use Rattle.meaning.specs.Answers.{answer, pathTree, pathChecks, pathAnswer, selected, evaluation, output, evaluated}
-use Rattle.meaning.specs.Rows.{pathLengthAllowed, opOf, fieldsOf, code, isPath, isStep, isPredicate, isLiteral, isUnknown, isLink, takes, mayMiss, goodLink, goodTest, goodField, goodFields, follow, firstLink, secondLink, links, linkedBelow, linksAgain, misplaced, brokenRow}
+use Rattle.meaning.specs.Rows.{pathLengthAllowed, opOf, fieldsOf, code, isPath, isStep, isLiteral, isUnknown, isLink, takes, mayMiss, goodLink, goodTest, goodField, goodFields, follow, firstLink, secondLink, links, linkedBelow, linksAgain, misplaced, brokenRow}
 use Rattle.meaning.specs.Rows as R
 use Rattle.meaning.specs.Tree.{none, node, indexOrAxis, testAt, linked, tree, depth}
 use Rattle.meaning.specs.Meaning.{isAbsolute, startOf, union, select, walk, filtered}
@@ -44,8 +43,8 @@ one-of-two : (b : Bool) (m n : ℕ) → length (cond b (m ∷ cond (not b) (n �
 one-of-two true m n = refl
 one-of-two false m n = refl
 
--- y lies on exactly one of them, of x: those on which it lies are one in number. It needs neither an accepted table nor nodes: of two
--- numbers one is below the other, or they are equal, and `inside` parts the later ones, and the earlier ones, in two
+-- y lies on exactly one of them: the axes of x on which it lies are one in number. Less than an accepted table and two of its nodes is
+-- needed: for any two numbers one is below the other or they are equal, and `inside` parts the later ones and the earlier ones in two
 pub five-parts : (t : List ℕ) (x y : ℕ) → length (keep (λ axis. onAxis t axis x y) fiveParts) ≡ 1
 unfolding onAxis axisOf on inside keep
 five-parts t x y = elim (lt-or-ge x y) [
@@ -80,7 +79,7 @@ abbrev pub answered : List ℕ → ℕ → ℕ → List ℕ → List ℕ
 answered t axis x out = take (evaluation t (axisPath axis) [] x (length out) .place) (evaluated t (axisPath axis) [] x out)
 
 axis-path-good : (axis : ℕ) → axis ≤ 10 → pathAnswer (axisPath axis) [] ≡ answer 0 2
-unfolding pathAnswer pathChecks some upTo pathLengthAllowed opOf fieldsOf code isPath isStep isPredicate isLiteral isUnknown isLink takes mayMiss goodLink goodTest goodField goodFields follow firstLink secondLink links linkedBelow linksAgain misplaced brokenRow indexOrAxis testAt linked tree depth
+unfolding pathAnswer pathChecks some upTo pathLengthAllowed opOf fieldsOf code isPath isStep isUnknown isLink takes mayMiss goodLink goodTest goodField goodFields follow firstLink secondLink links linkedBelow linksAgain misplaced brokenRow linked tree depth
 axis-path-good axis h = rw (le-leb axis 10 h)
 
 axis-path-tree : (axis : ℕ) → pathTree (axisPath axis) ≡ node R.relative (node R.step none none axis 0) none 0 0
@@ -99,8 +98,8 @@ module _ (t : List ℕ) (axis x : ℕ) (h : axis ≤ 10) (below : x < rows t) wh
       (λ k. candidate-from t (axisOf axis) A.any-node x y k tt l))))
 
   module _ (acc : accepted t ≡ true) (out : List ℕ) (room : rows t ≤ length out) where
-    -- where there is room for every node it is answered 0, and the nodes are written
-    axis-path-answered : evaluation t (axisPath axis) [] x (length out) ≡ answer 0 (length (selected t (axisPath axis) [] x))
+    -- where there is room for every node it is answered 0, with their count, and the nodes are written
+    pub axis-path-answered : evaluation t (axisPath axis) [] x (length out) ≡ answer 0 (length (selected t (axisPath axis) [] x))
     axis-path-answered =
         evaluation-exactly t (axisPath axis) [] x (length out) _ .1
         (selects acc (path-accepted (axisPath axis) [] (ap (λ (a : Answer). a .number) (axis-path-good axis h))) below
@@ -116,7 +115,8 @@ module _ (t : List ℕ) (axis x : ℕ) (h : axis ≤ 10) (below : x < rows t) wh
         (λ k. has-keep-to (onAxis t axis x) (upTo (rows t)) y k .0)
         (λ k. has-keep-from (onAxis t axis x) (upTo (rows t)) y k (has-upTo-from (rows t) y l)))
 
--- with room for every node the five answers from x together list every node once: each is in exactly one of them
+-- the five answers from x, each 0 where there is room for every node (`axis-path-answered`), together list every node once: it is in
+-- exactly one of them, and each of them ascends (`evaluate-ascending`)
 pub five-answers : (t : List ℕ) → accepted t ≡ true → (x : ℕ) → x < rows t → (out : List ℕ) → rows t ≤ length out
     → (y : ℕ) → y < rows t → length (keep (λ axis. has (answered t axis x out) y) fiveParts) ≡ 1
 unfolding keep
