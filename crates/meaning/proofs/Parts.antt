@@ -4,27 +4,28 @@
 use Prim.Native.Nat.{ℕ, _<_, _≤_}
 use mathlib.Core.Path.{_≡_, refl, ap, _∙_}
 use mathlib.Core.Logic.{inl, inr}
-use mathlib.Core.Bool.{Bool, true, false, _||_, not, cond}
+use mathlib.Core.Bool.{Bool, true, false, _&&_, _||_, not, cond, and-true}
 use mathlib.Core.List.{List, [], _∷_, map}
 use lib.ListN.{length, take}
-use lib.Dec.{leb}
+use lib.Dec.{leb, eqb}
 use lib.Seq.{take-append-seam}
 use native.Mathlib.Omega.{arith}
 use borrow.Author.Tests.{lt-ltb, le-ltb, eq-eqb, ne-eqb, le-leb}
 use Rattle.meaning.specs.Lists.{keep, some, upTo, has}
 use Rattle.meaning.specs.Table.{rows, end, accepted}
-use Rattle.meaning.specs.Axis.{Axis, axisOf, inside, on, onAxis, testOf, passes, candidates}
+use Rattle.meaning.specs.Axis.{Axis, axisOf, inside, on, onAxis, testOf, passes}
 use Rattle.meaning.specs.Axis as A
 use Rattle.meaning.specs.Answers.{answer, pathTree, pathChecks, pathAnswer, selected, evaluation, output, evaluated}
 use Rattle.meaning.specs.Rows.{pathLengthAllowed, opOf, fieldsOf, code, isPath, isStep, isLiteral, isUnknown, isLink, takes, mayMiss, goodLink, goodTest, goodField, goodFields, follow, firstLink, secondLink, links, linkedBelow, linksAgain, misplaced, brokenRow}
 use Rattle.meaning.specs.Rows as R
 use Rattle.meaning.specs.Tree.{none, node, indexOrAxis, testAt, linked, tree, depth}
-use Rattle.meaning.specs.Meaning.{isAbsolute, startOf, union, select, walk, filtered}
+use Rattle.meaning.specs.Meaning.{isAbsolute, startOf, select, walk}
+use Rattle.meaning.specs.Turning.{counting}
 use Rattle.meaning.specs.Cases.{line}
 use Rattle.meaning.specs.declared.Answer.{Answer}
 use Rattle.meaning.proofs.Bools.{lt-or-ge, same}
 use Rattle.meaning.proofs.Lists.{has-keep-to, has-keep-from, has-upTo-from, length-upTo, keep-upTo, keep-shorter}
-use Rattle.meaning.proofs.Axes.{candidate-to, candidate-from}
+use Rattle.meaning.proofs.Free.{ok, free-walk}
 use Rattle.meaning.proofs.Windows.{some-one}
 use Rattle.meaning.proofs.Exactly.{selects, evaluation-exactly}
 use Rattle.meaning.proofs.Checks.{path-accepted}
@@ -39,6 +40,7 @@ pub five-names : map axisOf fiveParts ≡ A.self ∷ A.ancestor ∷ A.descendant
 unfolding axisOf
 five-names = refl
 
+-- of a test and its opposite one holds
 one-of-two : (b : Bool) (m n : ℕ) → length (cond b (m ∷ cond (not b) (n ∷ []) []) (cond (not b) (n ∷ []) [])) ≡ 1
 one-of-two true m n = refl
 one-of-two false m n = refl
@@ -89,13 +91,11 @@ axis-path-tree axis = refl
 module _ (t : List ℕ) (axis x : ℕ) (h : axis ≤ 10) (below : x < rows t) where
   -- it selects the nodes on the axis
   axis-path-selects : selected t (axisPath axis) [] x ≡ keep (onAxis t axis x) (upTo (rows t))
-  unfolding select walk union startOf filtered isAbsolute code onAxis testOf passes
-  axis-path-selects = rw (axis-path-tree axis) (keep-upTo _ _ (rows t) (λ y l.
-      some-one (λ z. has (candidates t (axisOf axis) A.any-node z) y) (rows t) x below
-      ∙ rw (le-leb axis 10 h)
-      (same (has (candidates t (axisOf axis) A.any-node x) y) (on t (axisOf axis) x y)
-      (λ k. candidate-to t (axisOf axis) A.any-node x y k .0)
-      (λ k. candidate-from t (axisOf axis) A.any-node x y k tt l))))
+  unfolding select walk startOf isAbsolute code counting onAxis testOf passes ok
+  axis-path-selects =
+      rw (axis-path-tree axis)
+      (free-walk t [] R.step none none axis 0 (keep (eqb x) (upTo (rows t))) refl
+      ∙ keep-upTo _ _ (rows t) (λ y l. some-one (λ z. on t (axisOf axis) z y && true) (rows t) x below ∙ rw (le-leb axis 10 h) (and-true (on t (axisOf axis) x y))))
 
   module _ (acc : accepted t ≡ true) (out : List ℕ) (room : rows t ≤ length out) where
     -- where there is room for every node it is answered 0, with their count, and the nodes are written
