@@ -1,6 +1,6 @@
 /* compare.c: holds the archive to the independent reference on random inputs.
  *
- *   compare SEED COUNT [FIRST]   COUNT random inputs, all five functions each
+ *   compare SEED COUNT [FIRST]   COUNT random inputs, all six functions each
  *   compare stress               the largest inputs, on a stack of 1 MiB
  *
  * Both sides get the same output slice, filled with the same random words and
@@ -18,18 +18,18 @@
 #include <string.h>
 #include <sys/mman.h>
 
-enum { MARGIN = 16, OUT_ROOM = 4200, PAGE = 4096, FENCED = 32 * PAGE };
+enum { MARGIN = 16, OUT_ROOM = 4200, PAGE = 4096, FENCED = 32 * PAGE, AXES = 11, FEW_ROWS = 24 };
 
 /* more work than this is left out: a few tens of milliseconds */
 static const uint64_t WORK_LIMIT = 6000000;
 
-enum function { CHECK_TABLE, CHECK_PATH, EVALUATE, TURN, VIEW, FUNCTIONS };
+enum function { CHECK_TABLE, PLACE, CHECK_PATH, EVALUATE, TURN, VIEW, FUNCTIONS };
 
 static const char *const names[FUNCTIONS] = {
-    "bt_check_table", "bt_check_path", "bt_evaluate", "bt_turn", "bt_view"
+    "bt_check_table", "bt_axis_place", "bt_check_path", "bt_evaluate", "bt_turn", "bt_view"
 };
 
-/* how often each function gave each number; for the view: 0 empty, 1 a part */
+/* how often each function gave each number; for the view: 0 empty, 1 a part; for the place: on how many axes there was one */
 static uint64_t seen[FUNCTIONS][12];
 static uint64_t left_out;
 
@@ -84,11 +84,29 @@ static void fill(struct result *result, uint64_t seed)
         result->out[i] = any(&random);
 }
 
+typedef uint32_t place_function(const uint32_t *table, size_t table_len, uint32_t axis, uint32_t x, uint32_t y);
+
+/* the places on every axis of the start node, and on one axis too many: of the node and, in a small table, of each row and of the number
+ * behind the last; gives back on how many axes some place was found */
+static uint32_t ask_places(place_function *ask, const struct input *in, const uint32_t *table, uint32_t *out)
+{
+    uint32_t rows = (uint32_t)(in->table_len / 4), axes = 0;
+    uint32_t asked = rows <= FEW_ROWS ? rows + 1 : 0;
+    for (uint32_t axis = 0; axis <= AXES; axis++) {
+        uint32_t found = *out++ = ask(table, in->table_len, axis, in->start, in->node);
+        for (uint32_t y = 0; y < asked; y++)
+            found |= *out++ = ask(table, in->table_len, axis, in->start, y);
+        axes += found != 0;
+    }
+    return axes;
+}
+
 static void ask_reference(enum function f, const struct input *in, size_t room, struct result *r)
 {
     uint32_t *out = r->out + MARGIN, *place = &r->place[1];
     switch (f) {
     case CHECK_TABLE: r->number = ref_check_table(in->table, in->table_len, place); break;
+    case PLACE: r->number = ask_places(ref_axis_place, in, in->table, out); break;
     case CHECK_PATH:
         r->number = ref_check_path(in->path, in->path_len, in->literals, in->literals_len, place);
         break;
@@ -110,6 +128,7 @@ static void ask_archive(enum function f, const struct input *in, struct fenced p
     uint32_t *out = r->out + MARGIN, *place = &r->place[1];
     switch (f) {
     case CHECK_TABLE: r->number = bt_check_table(p.table, in->table_len, place); break;
+    case PLACE: r->number = ask_places(bt_axis_place, in, p.table, out); break;
     case CHECK_PATH:
         r->number = bt_check_path(p.path, in->path_len, p.literals, in->literals_len, place);
         break;
@@ -180,6 +199,8 @@ static const char *fault(enum function f, const struct result *expected, const s
             return "the part's length";
         return found->length > 0 && found->begin != expected->begin ? "the part's begin" : NULL;
     }
+    if (f == PLACE)
+        return memcmp(found->out, expected->out, sizeof found->out) != 0 ? "a place on an axis" : NULL;
     if (found->number != expected->number)
         return "the number";
     if (found->place[1] != expected->place[1])
@@ -257,7 +278,7 @@ static void print_summary(uint64_t cases)
         for (int n = 0; n < 12; n++)
             if (seen[f][n] > 0)
                 printf("  %d:%lu", n, (unsigned long)seen[f][n]);
-        puts(f == VIEW ? "  (0 empty, 1 a part)" : "  (number:times)");
+        puts(f == VIEW ? "  (0 empty, 1 a part)" : f == PLACE ? "  (axes:times)" : "  (number:times)");
     }
     printf("agreed: %lu inputs, %lu evaluations left out as too long\n",
            (unsigned long)cases, (unsigned long)left_out);

@@ -525,6 +525,21 @@ static bool passes(uint32_t test, const struct node *node)
     }
 }
 
+uint32_t ref_axis_place(const uint32_t *table, size_t table_len, uint32_t axis, uint32_t x, uint32_t y)
+{
+    uint32_t rows, place = 1;
+    if (ref_check_table(table, table_len, &rows) != 0 || axis > PRECEDING_SIBLING || x >= rows || y >= rows)
+        return 0;
+    struct node *nodes = plant(table, rows);
+    struct node *node = axis_first(axis, &nodes[x]);
+    for (; node && node != &nodes[y]; place++)
+        node = axis_next(axis, node, &nodes[x]);
+    if (!node)
+        place = 0;
+    free(nodes);
+    return place;
+}
+
 /* ---- expressions (section 3) ---- */
 
 struct run {

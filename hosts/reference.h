@@ -20,6 +20,8 @@ uint32_t ref_check_path(const uint32_t *path, size_t path_len,
                         const double *literals, size_t literals_len,
                         uint32_t *place);
 
+uint32_t ref_axis_place(const uint32_t *table, size_t table_len, uint32_t axis, uint32_t x, uint32_t y);
+
 /* work_limit bounds the work: the table's rows, for each path begun and each step
  * taken from one node. */
 uint32_t ref_evaluate(const uint32_t *table, size_t table_len,

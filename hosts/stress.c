@@ -17,7 +17,7 @@
 #include <string.h>
 #include <sys/mman.h>
 
-enum { ROWS = 4096, STACK = 1 << 20, PAGE = 4096, PATTERN = 0xA5, TURNED_ROOM = 5 * 256 };
+enum { ROWS = 4096, STACK = 1 << 20, PAGE = 4096, PATTERN = 0xA5, TURNED_ROOM = 5 * 256, DESCENDANT = 3 };
 
 static const uint64_t WORK_LIMIT = 300000000;
 
@@ -152,7 +152,7 @@ static void deepest(struct maker *m)
 /* ---- one case on a small stack ---- */
 
 struct answers {
-    uint32_t table, path, evaluate, turn, place[4];
+    uint32_t table, path, evaluate, turn, axis_place, place[4];
     size_t begin, length;
     uint32_t nodes[ROWS], turned[TURNED_ROOM];
 };
@@ -165,6 +165,7 @@ static void *run_archive(void *argument)
     const struct input *in = job->in;
     struct answers *a = job->answers;
     a->table = bt_check_table(in->table, in->table_len, &a->place[0]);
+    a->axis_place = bt_axis_place(in->table, in->table_len, DESCENDANT, 0, ROWS - 1);
     a->path = bt_check_path(in->path, in->path_len, in->literals, in->literals_len, &a->place[1]);
     a->evaluate = bt_evaluate(in->table, in->table_len, in->path, in->path_len, in->literals,
                               in->literals_len, in->start, a->nodes, ROWS, &a->place[2]);
@@ -177,6 +178,7 @@ static void *run_archive(void *argument)
 static void run_reference(const struct input *in, struct answers *a)
 {
     a->table = ref_check_table(in->table, in->table_len, &a->place[0]);
+    a->axis_place = ref_axis_place(in->table, in->table_len, DESCENDANT, 0, ROWS - 1);
     a->path = ref_check_path(in->path, in->path_len, in->literals, in->literals_len, &a->place[1]);
     a->evaluate = ref_evaluate(in->table, in->table_len, in->path, in->path_len, in->literals,
                                in->literals_len, in->start, a->nodes, ROWS, &a->place[2], WORK_LIMIT);

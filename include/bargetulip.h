@@ -1,9 +1,9 @@
 /* bargetulip.h: the proved XPath 1.0 checker, called from C.
  *
- * Five functions over plain numbers: two checkers, an evaluator, a path
- * turner and a view of an answer inside one subtree. What a table, a path and
- * an answer are is said below as far as a caller needs it; document 01 of the
- * project is the definition. Link with libcapi.a (made by `rt staticlib capi`)
+ * Six functions over plain numbers: two checkers, the place of a node on an
+ * axis of another, an evaluator, a path turner and a view of an answer inside
+ * one subtree. What a table, a path and an answer are is said below as far as
+ * a caller needs it; documents 01 and 02 of the project are the definition. Link with libcapi.a (made by `rt staticlib capi`)
  * on x86-64 Linux, and with -lm.
  *
  * A node table is 4 numbers a row, 1 to 4,096 rows, in document order:
@@ -97,6 +97,14 @@ enum {
 /* Checks a node table.
  * Returns 0, 1 or 2. *place: the row count (0), 0 (1), the lowest broken row (2). */
 uint32_t bt_check_table(const uint32_t *table, size_t table_len, uint32_t *place);
+
+/* The place of node y on the axis of node x: counted from 1 in the order in
+ * which positions count along that axis (axes 2, 4, 6, 8 and 10 run against
+ * document order), before any test, so that nodes of every kind count.
+ * Returns the place, or 0 if y is not on the axis, the table is not accepted,
+ * axis is above 10, or x or y is not a row. */
+uint32_t bt_axis_place(const uint32_t *table, size_t table_len,
+                       uint32_t axis, uint32_t x, uint32_t y);
 
 /* Checks a path and its literals; literals that no row uses are checked too.
  * Returns 0 or 3 to 6. *place: the row count (0), otherwise as in the list above. */

@@ -1,18 +1,18 @@
-// Is a node on an axis of another, and does it pass a test: each equal to its definition (document 01, "Meaning").
+// Is a node on an axis of another, in which order does the axis run, and does a node pass a test: each equal to its definition (document
+// 01, "Meaning").
 use basics::at_most;
 use basics::below;
 use basics::both;
 use basics::either;
 use basics::entry;
 use basics::same;
-use basics::wide;
 use table::kind_at;
 use table::name_at;
 ghost use mathlib.Core.Path.{_≡_};
 ghost use Prim.Native.Nat.{_-_, _<_};
+ghost use lib.ListN.{getD};
 ghost use Rattle.meaning.specs.Table.{rows, parentOf, end};
-ghost use Rattle.meaning.specs.Axis.{inside, on, axisOf, passes, testOf, isReverse};
-ghost use Rattle.meaning.specs.Promises.{AnswersAxis};
+ghost use Rattle.meaning.specs.Axis.{inside, on, axisOf, passes, testOf, isReverse, ordered};
 ghost use Rattle.meaning.specs.Axis.Axis.{child, following, following-sibling};
 
 // The parent of any number, and the end of its subtree: of no row both read 0 for what is stored.
@@ -83,12 +83,19 @@ pub fn holds(table: &[u32], axis: usize, x: usize, y: usize) -> bool
     }
 }
 
-// Is node y on the axis with this number of node x? Any numbers may be asked.
-pub fn on_axis(table: &[u32], axis: u32, x: u32, y: u32) -> bool
-    ensures { λ r. ⌜ AnswersAxis (now (table .entry)) axis x y r ⌝ }
+// Does the axis run against document order?
+pub fn is_reverse(axis: usize) -> bool
+    ensures { λ r. ⌜ r ≡ isReverse (axisOf axis) ⌝ }
 {
-    let n = wide(axis);
-    both(at_most(n, 10), holds(table, n, wide(x), wide(y)))
+    both(same(axis % 2, 0), both(below(0, axis), at_most(axis, 10)))
+}
+
+// The i-th of n rows in document order, or in reverse.
+pub fn nth(reverse: bool, n: usize, i: usize) -> usize
+    requires { ⌜ i < n ⌝ }
+    ensures { λ r. ⌜ (r ≡ getD (ordered reverse n) i 0) × (r < n) ⌝ }
+{
+    if reverse { n - 1 - i } else { i }
 }
 
 // Does node y pass the test with this number?
@@ -122,11 +129,4 @@ fn less(a: usize, b: usize) -> usize
     ensures { λ r. ⌜ r ≡ a - b ⌝ }
 {
     if a < b { 0 } else { a - b }
-}
-
-// Does the axis run against document order?
-pub fn is_reverse(axis: usize) -> bool
-    ensures { λ r. ⌜ r ≡ isReverse (axisOf axis) ⌝ }
-{
-    both(same(axis % 2, 0), both(below(0, axis), at_most(axis, 10)))
 }

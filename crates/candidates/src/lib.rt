@@ -1,22 +1,15 @@
 // The candidates of a step from one node: the rows of an axis that pass a test, in the order of the axis.
 use axes::holds;
 use axes::is_reverse;
+use axes::nth;
 use axes::passes_test;
 use basics::both;
 use table::row_count;
 ghost use mathlib.Core.Path.{_≡_};
 ghost use Prim.Native.Nat.{_<_, _≤_};
-ghost use lib.ListN.{length, getD, take};
+ghost use lib.ListN.{length, take};
 ghost use Rattle.meaning.specs.Table.{rows, mostRows};
-ghost use Rattle.meaning.specs.Axis.{axisOf, testOf, ordered, candidates};
-
-// The i-th of n rows in document order, or in reverse.
-fn nth(reverse: bool, n: usize, i: usize) -> usize
-    requires { ⌜ i < n ⌝ }
-    ensures { λ r. ⌜ (r ≡ getD (ordered reverse n) i 0) × (r < n) ⌝ }
-{
-    if reverse { n - 1 - i } else { i }
-}
+ghost use Rattle.meaning.specs.Axis.{axisOf, testOf, candidates};
 
 // Writes the candidates to the front of the list.
 pub fn list_candidates(table: &[u32], axis: usize, test: usize, x: usize, list: &mut [u32]) -> usize

@@ -1,13 +1,14 @@
 // The C interface: the public functions, exported for a C host (include/bargetulip.h). A slice passes as a pointer and a length.
-// Each returns document 01's number and stores its place; the contracts pass on what the library promises.
+// Each returns document 01's number and stores its place, but for the two that have none; the contracts pass on what the library promises.
 use path_check::check_path;
+use place::axis_place;
 use select::evaluate;
 use table_check::check_table;
 use turn::turn;
 use view::ends_of;
 ghost use Rattle.meaning.specs.Answers.{answer};
 ghost use Rattle.meaning.specs.View.{partFrom};
-ghost use Rattle.meaning.specs.Promises.{ChecksTable, ChecksPath, EvaluatesPath, TurnsPath, FindsPart};
+ghost use Rattle.meaning.specs.Promises.{ChecksTable, AnswersPlace, ChecksPath, EvaluatesPath, TurnsPath, FindsPart};
 
 #[no_mangle]
 pub extern "C" fn bt_check_table(table: &[u32], place: &mut u32) -> u32
@@ -16,6 +17,14 @@ pub extern "C" fn bt_check_table(table: &[u32], place: &mut u32) -> u32
     let answer = check_table(table);
     *place = answer.place;
     answer.number
+}
+
+// The place itself: there is nothing to refuse.
+#[no_mangle]
+pub extern "C" fn bt_axis_place(table: &[u32], axis: u32, x: u32, y: u32) -> u32
+    ensures { λ r. ⌜ AnswersPlace (now (table .entry)) axis x y r ⌝ }
+{
+    axis_place(table, axis, x, y)
 }
 
 #[no_mangle]

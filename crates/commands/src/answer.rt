@@ -2,6 +2,7 @@
 use crate::show::Unit;
 use crate::show::write_answer;
 use crate::show::write_part;
+use crate::show::write_place;
 use lines::output::UNTOUCHED;
 use lines::output::front;
 use lines::read::count_of;
@@ -20,6 +21,15 @@ pub fn answer_check_table(line: &[u8], table: &[u32]) {
 pub fn answer_check_path(line: &[u8], path: &[u32], literals: &[f64]) {
     let answer = path_check::check_path(path, literals);
     write_answer(line, answer, Unit::Row, 0, front(path, 0));
+}
+
+// `place axis x y`
+pub fn answer_place(line: &[u8], at: usize, table: &[u32]) {
+    let axis = number_at(line, at);
+    let x = number_at(line, axis.next);
+    let y = number_at(line, x.next);
+    let place = place::axis_place(table, small(axis.value), small(x.value), small(y.value));
+    write_place(line, place);
 }
 
 // `evaluate start room`

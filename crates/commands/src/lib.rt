@@ -6,6 +6,7 @@ mod show;
 use answer::answer_check_path;
 use answer::answer_check_table;
 use answer::answer_evaluate;
+use answer::answer_place;
 use answer::answer_turn;
 use answer::answer_view;
 use libc::STDIN_FILENO;
@@ -28,6 +29,7 @@ enum Command {
     Turned,
     CheckTable,
     CheckPath,
+    Place,
     Evaluate,
     Turn,
     View,
@@ -60,6 +62,9 @@ fn question_of(line: &[u8]) -> Command {
     }
     if is_word(line, b"check_path") {
         return Command::CheckPath;
+    }
+    if is_word(line, b"place") {
+        return Command::Place;
     }
     if is_word(line, b"evaluate") {
         return Command::Evaluate;
@@ -116,6 +121,7 @@ fn answer_line(
         Command::Title => write_title(line, at),
         Command::CheckTable => answer_check_table(line, table),
         Command::CheckPath => answer_check_path(line, path, literals),
+        Command::Place => answer_place(line, at, table),
         Command::Evaluate => answer_evaluate(line, at, table, path, literals),
         Command::Turn => answer_turn(line, at, path, literals),
         Command::View => answer_view(line, at, table),

@@ -170,3 +170,16 @@ pub fn write_part(line: &[u8], begin: usize, part: &[u32]) {
     }
     write_line(out, used);
 }
+
+// A place; with a name in words.
+pub fn write_place(line: &[u8], place: u32) {
+    let mut space = io::large_buffer();
+    let out: &mut [u8] = &mut space;
+    let name = name_of(line);
+    let mut used = put_name(out, name);
+    if name.len() != 0 {
+        used = put_text(out, used, b"place ");
+    }
+    used = put_number(out, used, place);
+    write_line(out, used);
+}

@@ -1,5 +1,4 @@
--- Laws of the axes, with the axis as a parameter: the inverse-axis law, ancestors by the chain of parents,
--- and an axis's candidates: below the row count, and strictly monotone along the axis.
+-- Laws of the axes, with the axis as a parameter: the inverse-axis law, and ancestors by the chain of parents.
 -- Assumes nothing.
 use Prim.Native.Nat.{ℕ, zero, suc, _<_, _≤_}
 use mathlib.Core.Path.{_≡_, refl, sym, subst, _∙_}
@@ -10,13 +9,12 @@ use borrow.Author.Tests.{lt-ltb}
 use lib.Dec.{T, leb, ltb, eqb, ltb→lt, leb→le, eqb→eq, lt→ltb, le→leb}
 use native.Mathlib.Omega.{arith}
 use native.Mathlib.Nat.{eq-or-lt-of-le}
-use Rattle.meaning.specs.Lists.{has}
 use Rattle.meaning.specs.Table.{parentOf, rows, end, accepted}
-use Rattle.meaning.specs.Axis.{Axis, Test, inside, on, passes, isReverse, ordered, candidates}
+use Rattle.meaning.specs.Axis.{Axis, inside, on}
 use Rattle.meaning.specs.Axis as A
 use Rattle.meaning.proofs.Bools.{and-l, and-r, and-i, or-e, or-i-l, or-i-r, eqb-sym, eq→eqb, same, lt-or-ge}
-use Rattle.meaning.proofs.Lists.{Monotone, has-keep-to, has-keep-from, has-order-to, has-order-from, keep-monotone, order-monotone}
 use Rattle.meaning.proofs.Tables.{Child, child, nest}
+use Rattle.meaning.proofs.Places.{placed, placed-on}
 
 -- the inverse of an axis
 unfoldable pub inverse : Axis → Axis
@@ -32,20 +30,23 @@ inverse A.preceding = A.following
 inverse A.following-sibling = A.preceding-sibling
 inverse A.preceding-sibling = A.following-sibling
 
--- y lies on an axis of x exactly when x lies on the inverse axis of y
-pub inverse-axis : (t : List ℕ) (a : Axis) (x y : ℕ) → on t a x y ≡ on t (inverse a) y x
+-- a node has a place on an axis of another exactly if the other has one on the inverse axis of it
+pub inverse-axis : (t : List ℕ) (a : Axis) (x y : ℕ) → x < rows t → y < rows t → placed t a x y ≡ placed t (inverse a) y x
 unfolding on inverse
-inverse-axis t A.self x y = eqb-sym x y
-inverse-axis t A.child x y = refl
-inverse-axis t A.parent x y = refl
-inverse-axis t A.descendant x y = refl
-inverse-axis t A.ancestor x y = refl
-inverse-axis t A.descendant-or-self x y = rw (eqb-sym x y)
-inverse-axis t A.ancestor-or-self x y = rw (eqb-sym x y)
-inverse-axis t A.following x y = refl
-inverse-axis t A.preceding x y = refl
-inverse-axis t A.following-sibling x y = refl
-inverse-axis t A.preceding-sibling x y = refl
+inverse-axis t a x y h k = rw (placed-on t a x y k, placed-on t (inverse a) y x h) (by a)
+  where
+    by : (a : Axis) → on t a x y ≡ on t (inverse a) y x
+    by A.self = eqb-sym x y
+    by A.child = refl
+    by A.parent = refl
+    by A.descendant = refl
+    by A.ancestor = refl
+    by A.descendant-or-self = rw (eqb-sym x y)
+    by A.ancestor-or-self = rw (eqb-sym x y)
+    by A.following = refl
+    by A.preceding = refl
+    by A.following-sibling = refl
+    by A.preceding-sibling = refl
 
 -- is y the parent of x, or its parent's parent, and so on, k steps at most?
 unfoldable pub above : List ℕ → ℕ → ℕ → ℕ → Bool
@@ -92,22 +93,3 @@ module _ (t : List ℕ) (acc : accepted t ≡ true) where
         let b : parentOf t x < x = child t acc x p l .below in
         ancestor-step x y p l ∙ rw (lt-ltb 0 x p, ancestors-are-above k (parentOf t x) y (omega arith) (omega arith))
   ]
-
--- ---- candidates
-
--- a candidate is on the axis, passes the test and is a row
-pub candidate-to : (t : List ℕ) (a : Axis) (u : Test) (x y : ℕ) → T (has (candidates t a u x) y) → T (on t a x y) × T (passes t u y) × (y < rows t)
-unfolding candidates
-candidate-to t a u x y h =
-    let r : T (on t a x y && passes t u y) × T (has (ordered (isReverse a) (rows t)) y) = has-keep-to (λ z. on t a x z && passes t u z) (ordered (isReverse a) (rows t)) y h in
-    (and-l (on t a x y) (passes t u y) (r .0), and-r (on t a x y) (passes t u y) (r .0), has-order-to (isReverse a) (rows t) y (r .1))
-
-pub candidate-from : (t : List ℕ) (a : Axis) (u : Test) (x y : ℕ) → T (on t a x y) → T (passes t u y) → y < rows t → T (has (candidates t a u x) y)
-unfolding candidates
-candidate-from t a u x y h k l =
-    has-keep-from (λ z. on t a x z && passes t u z) (ordered (isReverse a) (rows t)) y (and-i (on t a x y) (passes t u y) h k) (has-order-from (isReverse a) (rows t) y l)
-
--- the candidates are strictly monotone along the axis
-pub candidates-monotone : (t : List ℕ) (a : Axis) (u : Test) (x : ℕ) → Monotone (isReverse a) (candidates t a u x)
-unfolding candidates
-candidates-monotone t a u x = keep-monotone (isReverse a) (λ y. on t a x y && passes t u y) (ordered (isReverse a) (rows t)) (order-monotone (isReverse a) (rows t))

@@ -7,25 +7,26 @@ use mathlib.Core.Path.{_≡_, refl, sym, ap, _∙_}
 use mathlib.Core.Bool.{Bool, true, false, _&&_, _||_, not, cond, and-true, and-false, and-comm}
 use mathlib.Core.List.{List, [], _∷_}
 use lib.ListN.{length}
-use lib.Dec.{ltb, eqb}
+use lib.Dec.{T, ltb, eqb}
 use lib.Ieee.{Float}
 use native.Mathlib.Omega.{arith}
 use borrow.Author.Tests.{lt-ltb, ne-eqb}
-use Rattle.meaning.specs.Lists.{keep, some, upTo}
+use Rattle.meaning.specs.Lists.{keep, some, has, upTo}
 use Rattle.meaning.specs.Table.{rows}
 use Rattle.meaning.specs.Axis.{axisOf, testOf, on}
 use Rattle.meaning.specs.Rows.{Op, code, opOf, field, firstLink, secondLink}
 use Rattle.meaning.specs.Rows as R
 use Rattle.meaning.specs.Tree.{Tree, none, node, tree, indexOrAxis, testAt}
-use Rattle.meaning.specs.Meaning.{applied, isAbsolute, startOf, value, select, walk}
+use Rattle.meaning.specs.Meaning.{applied, isAbsolute, startOf, union, value, select, walk}
 use Rattle.meaning.specs.Turning.{counting, counts, inverseOf}
 use Rattle.meaning.proofs.Bools.{or-none-l, or-none-r}
-use Rattle.meaning.proofs.Lists.{some-same}
+use Rattle.meaning.proofs.Lists.{some-same, some-members, has-keep-to, has-upTo-to}
 use Rattle.meaning.proofs.Decoding.{op-is}
 use Rattle.meaning.proofs.Trees.{tree-zero, tree-row}
 use Rattle.meaning.proofs.Windows.{some-below, some-or, some-and, some-keep, some-one}
 use Rattle.meaning.proofs.Free.{true-at, ok, fits, free-walk}
-use Rattle.meaning.proofs.Turning.{inverse-on}
+use Rattle.meaning.proofs.Places.{placed, placed-on}
+use Rattle.meaning.proofs.Turning.{inverse-placed}
 
 some-none : (l : List ℕ) → some (λ y. false) l ≡ false
 unfolding some
@@ -57,21 +58,30 @@ module _ (t : List ℕ) (literals : List Float) where
   backs none good = good
   backs (node op a b c d) good = backs a (before c d b good)
 
-  -- a chain whose steps do not count leads from a set to some good node exactly if some node of the set is led back to
-  pub walk-back : (s : Tree) → counts s ≡ false → (good : ℕ → Bool) (set : List ℕ) → some good (walk t literals s set) ≡ some (backs s good) set
+  -- a chain leads from rows to rows
+  walk-rows : (s : Tree) (set : List ℕ) → ((x : ℕ) → T (has set x) → x < rows t) → (x : ℕ) → T (has (walk t literals s set) x) → x < rows t
+  unfolding walk union
+  walk-rows none set within x h = within x h
+  walk-rows (node op a b c d) set within x h = has-upTo-to (rows t) x (has-keep-to _ (upTo (rows t)) x h .1)
+
+  -- a chain whose steps do not count leads from a set of rows to some good node exactly if some node of the set is led back to
+  pub walk-back : (s : Tree) → counts s ≡ false → (good : ℕ → Bool) (set : List ℕ) → ((x : ℕ) → T (has set x) → x < rows t) → some good (walk t literals s set) ≡ some (backs s good) set
   unfolding walk backs counts before
-  walk-back none h good set = refl
-  walk-back (node op a b c d) h good set =
+  walk-back none h good set within = refl
+  walk-back (node op a b c d) h good set within =
       let w : List ℕ = walk t literals a set in
       let f : ℕ → Bool = fits t literals (testOf d) b in
-      let o : ℕ → ℕ → Bool = on t (axisOf c) in
+      let o : ℕ → ℕ → Bool = placed t (axisOf c) in
       ap (some good) (free-walk t literals op a b c d set (or-none-r (counts a) (counting b) h))
       ∙ some-keep good (λ y. some (λ x. o x y && f y) w) (upTo (rows t))
       ∙ some-same (λ y. some (λ x. o x y && f y) w && good y) (λ y. some (λ x. (o x y && f y) && good y) w) (upTo (rows t)) (λ y. sym (some-and (λ x. o x y && f y) (good y) w))
       ∙ some-swap (λ y x. (o x y && f y) && good y) (upTo (rows t)) w
-      ∙ some-same (λ x. some (λ y. (o x y && f y) && good y) (upTo (rows t))) (before c d b good) w
-      (λ x. some-same (λ y. (o x y && f y) && good y) (λ y. (good y && f y) && on t (axisOf (inverseOf c)) y x) (upTo (rows t)) (λ y. rw (← inverse-on t c x y) (shuffle (o x y) (f y) (good y))))
-      ∙ walk-back a (or-none-l (counts a) (counting b) h) (before c d b good) set
+      ∙ some-members (λ x. some (λ y. (o x y && f y) && good y) (upTo (rows t))) (before c d b good) w
+      (λ x m.
+      let l : x < rows t = walk-rows a set within x m in
+      some-below (λ y. (o x y && f y) && good y) (λ y. (good y && f y) && on t (axisOf (inverseOf c)) y x) (rows t)
+      (λ y k. rw (inverse-placed t c x y l k, placed-on t (axisOf (inverseOf c)) y x l) (shuffle (on t (axisOf (inverseOf c)) y x) (f y) (good y))))
+      ∙ walk-back a (or-none-l (counts a) (counting b) h) (before c d b good) set within
 
   -- a relative path whose steps do not count selects something from y exactly when y is reached back from all nodes
   pub exists-back : (s : Tree) → counts s ≡ false → (op : Op) (b : Tree) (c d : ℕ) → isAbsolute op ≡ false → (y : ℕ) → y < rows t → ltb 0 (length (select t literals (node op s b c d) y)) ≡ backs s (λ z. true) y
@@ -80,7 +90,7 @@ module _ (t : List ℕ) (literals : List Float) where
       let start : List ℕ = keep (eqb y) (upTo (rows t)) in
       rw relative
       (sym (some-all (walk t literals s start))
-      ∙ walk-back s h (λ z. true) start
+      ∙ walk-back s h (λ z. true) start (λ x m. has-upTo-to (rows t) x (has-keep-to (eqb y) (upTo (rows t)) x m .1))
       ∙ some-one (backs s (λ z. true)) (rows t) y l)
 
   -- one step back from the good nodes that fit

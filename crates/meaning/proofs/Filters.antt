@@ -5,7 +5,7 @@ use Prim.Native.Nat.{ℕ, _+_, _<_, _≤_}
 use mathlib.Core.Path.{_≡_, refl, sym, ap, _∙_}
 use mathlib.Core.Bool.{Bool, true, false}
 use mathlib.Core.List.{List, [], _∷_, _++_, append-nil, append-assoc}
-use lib.ListN.{length, getD, take, drop, set}
+use lib.ListN.{length, getD, take, drop, set, length-append}
 use lib.Seq.{slice-cons, slice-empty, take-suc, take-suc-set, take-set-lt, drop-set-lt, take-all}
 use native.Mathlib.Omega.{arith}
 use native.Mathlib.Numerals.{add-one}
@@ -35,6 +35,23 @@ module _ (p : ℕ → Bool) (from : List ℕ) where
   pub chosen-done : (list : List ℕ) (m i : ℕ) → Chosen p from list m i → length from ≤ i → take m list ≡ keep p from
   unfolding Chosen
   chosen-done list m i h a = rw (take-all i from a) at h
+
+-- m of the first i pass
+unfoldable pub Tallied : (ℕ → Bool) → List ℕ → ℕ → ℕ → Type 0
+Tallied p from m i = m ≡ length (keep p (take i from))
+
+module _ (p : ℕ → Bool) (from : List ℕ) where
+  pub tallied-start : Tallied p from 0 0
+  unfolding Tallied keep
+  tallied-start = refl
+
+  pub tallied-skip : (m i : ℕ) → Tallied p from m i → i < length from → p (getD from i 0) ≡ false → Tallied p from m (i + 1)
+  unfolding Tallied keep
+  tallied-skip m i h a e = rw (add-one i, take-suc from i 0 a, keep-append p (take i from) (getD from i 0 ∷ []), e, append-nil (keep p (take i from))) h
+
+  pub tallied-more : (m i : ℕ) → Tallied p from m i → i < length from → p (getD from i 0) ≡ true → Tallied p from (m + 1) (i + 1)
+  unfolding Tallied keep
+  tallied-more m i h a e = rw (add-one i, take-suc from i 0 a, keep-append p (take i from) (getD from i 0 ∷ []), e, length-append (keep p (take i from)) (getD from i 0 ∷ []), h)
 
 -- ---- a list that is filtered in place, by position
 

@@ -1,24 +1,23 @@
 -- Independence of the position: an expression that does not ask for position and size has one value at a node, so predicates
 -- that do not count filter node by node. By induction over the tree, each op taking only what it takes.
 -- Assumes nothing.
-use Prim.Native.Nat.{ℕ, _<_}
+use Prim.Native.Nat.{ℕ}
 use mathlib.Core.Path.{_≡_, refl, sym, ap, _∙_}
-use mathlib.Core.Bool.{Bool, true, false, _&&_, _||_, not, true≢false}
+use mathlib.Core.Bool.{Bool, true, false, _&&_, _||_, not, true≢false, and-assoc}
 use mathlib.Core.List.{List}
 use lib.ListN.{length}
-use lib.Dec.{T}
 use lib.Ieee.{Float}
 use Rattle.meaning.specs.Lists.{keep, some, has, upTo}
 use Rattle.meaning.specs.Table.{rows}
-use Rattle.meaning.specs.Axis.{Axis, Test, axisOf, testOf, on, passes, candidates}
+use Rattle.meaning.specs.Axis.{Axis, Test, axisOf, testOf, passes, candidates}
 use Rattle.meaning.specs.Rows.{Op}
 use Rattle.meaning.specs.Tree.{Tree, none, node}
 use Rattle.meaning.specs.Meaning.{float, truthOf, holds, value, select, walk, filtered, union}
 use Rattle.meaning.specs.Turning.{contextual, overPath, numeric, asks, counting}
 use Rattle.meaning.specs.declared.Context.{Context}
-use Rattle.meaning.proofs.Bools.{and-l, and-r, and-i, or-none-l, or-none-r, same}
-use Rattle.meaning.proofs.Lists.{some-same, has-keep-to, has-keep-from, keep-upTo, keep-all, keep-keep, keepAt-free}
-use Rattle.meaning.proofs.Axes.{candidate-to, candidate-from}
+use Rattle.meaning.proofs.Bools.{or-none-l, or-none-r}
+use Rattle.meaning.proofs.Lists.{some-same, has-keep, keep-upTo, keep-all, keep-keep, keepAt-free}
+use Rattle.meaning.proofs.Places.{placed, candidate-is}
 use Rattle.meaning.proofs.Applied.{takesFirst, second-first, operands-no-path, applied-agrees, applied-truth}
 
 -- the context of a node, its position and size left open
@@ -72,22 +71,15 @@ module _ (t : List ℕ) (literals : List Float) where
   abbrev pub fits : Test → Tree → ℕ → Bool
   fits u e y = passes t u y && ok e y
 
-  -- a step that does not count reaches what is on the axis, passes the test and holds
-  pub free-step : (a : Axis) (u : Test) (e : Tree) (x y : ℕ) → counting e ≡ false → y < rows t → has (filtered t literals e (candidates t a u x)) y ≡ (on t a x y && fits u e y)
-  free-step a u e x y h l =
+  -- a step that does not count reaches what has a place on the axis, passes the test and holds
+  pub free-step : (a : Axis) (u : Test) (e : Tree) (x y : ℕ) → counting e ≡ false → has (filtered t literals e (candidates t a u x)) y ≡ (placed t a x y && fits u e y)
+  free-step a u e x y h =
       ap (λ (l : List ℕ). has l y) (filtered-free e h (candidates t a u x))
-      ∙ same (has (keep (ok e) (candidates t a u x)) y) (on t a x y && fits u e y)
-      (λ k.
-      let f : T (ok e y) × T (has (candidates t a u x) y) = has-keep-to (ok e) (candidates t a u x) y k in
-      let g : T (on t a x y) × T (passes t u y) × (y < rows t) = candidate-to t a u x y (f .1) in
-      and-i (on t a x y) (fits u e y) (g .0) (and-i (passes t u y) (ok e y) (g .1) (f .0)))
-      (λ k.
-      let f : T (fits u e y) = and-r (on t a x y) (fits u e y) k in
-      has-keep-from (ok e) (candidates t a u x) y (and-r (passes t u y) (ok e y) f)
-      (candidate-from t a u x y (and-l (on t a x y) (fits u e y) k) (and-l (passes t u y) (ok e y) f) l))
+      ∙ has-keep (ok e) (candidates t a u x) y
+      ∙ rw (candidate-is t a x u y) (and-assoc (placed t a x y) (passes t u y) (ok e y))
 
   -- the same of the last step of a chain, from a set
   pub free-walk : (op : Op) (a b : Tree) (c d : ℕ) (set : List ℕ) → counting b ≡ false
-      → walk t literals (node op a b c d) set ≡ keep (λ y. some (λ x. on t (axisOf c) x y && fits (testOf d) b y) (walk t literals a set)) (upTo (rows t))
+      → walk t literals (node op a b c d) set ≡ keep (λ y. some (λ x. placed t (axisOf c) x y && fits (testOf d) b y) (walk t literals a set)) (upTo (rows t))
   unfolding walk union
-  free-walk op a b c d set h = keep-upTo _ _ (rows t) (λ y l. some-same _ _ (walk t literals a set) (λ x. free-step (axisOf c) (testOf d) b x y h l))
+  free-walk op a b c d set h = keep-upTo _ _ (rows t) (λ y l. some-same _ _ (walk t literals a set) (λ x. free-step (axisOf c) (testOf d) b x y h))

@@ -1,6 +1,7 @@
 pub mod Bools
 pub mod Lists
 pub mod Tables
+pub mod Places
 pub mod Axes
 pub mod Decoding
 pub mod Trees

@@ -6,16 +6,16 @@ use mathlib.Core.Logic.{inl, inr, ⊎-elim}
 use mathlib.Core.Bool.{Bool, true, false, _&&_, _||_, cond, or-assoc, or-false, or-comm}
 use mathlib.Core.List.{List, [], _∷_, _++_}
 use lib.Dec.{T, ltb, eqb, eqb→eq, eqb-refl}
-use lib.ListN.{length, getD, length-append, List·getD-append}
+use lib.ListN.{length, getD, take, length-append, length-take, List·getD-append}
 use lib.Seq.{getD-at}
 use native.Mathlib.Omega.{arith}
 use native.Mathlib.Nat.{eq-or-lt-of-le}
 use native.Mathlib.Numerals.{add-one}
-use borrow.Author.Tests.{lt-ltb, le-ltb, ltb-true, ltb-false}
-use Rattle.meaning.specs.Lists.{keep, some, has, upTo, downFrom, lowest}
+use borrow.Author.Tests.{lt-ltb, le-ltb, eq-eqb, ne-eqb, ltb-true, ltb-false}
+use Rattle.meaning.specs.Lists.{keep, some, has, upTo, downFrom, placeFrom, lowest}
 use Rattle.meaning.specs.Axis.{ordered}
 use Rattle.meaning.specs.Meaning.{keepAt}
-use Rattle.meaning.proofs.Bools.{and-l, and-r, and-i, or-e, or-i-l, or-i-r, eq→eqb, is-false, untrue, lt-or-ge}
+use Rattle.meaning.proofs.Bools.{and-l, and-r, and-i, or-e, or-i-l, or-i-r, eq→eqb, is-false, untrue, same, lt-or-ge}
 
 -- ---- members
 
@@ -33,11 +33,14 @@ some-from p (x ∷ xs) z h k = or-e (eqb z x) (some (eqb z) xs) k
     (λ e. or-i-l (p x) (some p xs) (subst (λ (w : ℕ). T (p w)) (eqb→eq z x e) h))
     (λ m. or-i-r (p x) (some p xs) (some-from p xs z h m))
 
--- tests that agree hold at some member alike
-pub some-same : (p q : ℕ → Bool) (l : List ℕ) → ((x : ℕ) → p x ≡ q x) → some p l ≡ some q l
+-- tests that agree on the members hold at some member alike
+pub some-members : (p q : ℕ → Bool) (l : List ℕ) → ((x : ℕ) → T (has l x) → p x ≡ q x) → some p l ≡ some q l
 unfolding some
-some-same p q [] h = refl
-some-same p q (x ∷ xs) h = rw (h x, some-same p q xs h)
+some-members p q [] h = refl
+some-members p q (x ∷ xs) h = rw (h x (or-i-l (eqb x x) (some (eqb x) xs) (eqb-refl x)), some-members p q xs (λ z k. h z (or-i-r (eqb z x) (some (eqb z) xs) k)))
+
+pub some-same : (p q : ℕ → Bool) (l : List ℕ) → ((x : ℕ) → p x ≡ q x) → some p l ≡ some q l
+some-same p q l h = some-members p q l (λ x k. h x)
 
 has-cond : (b : Bool) (x : ℕ) (l : List ℕ) (y : ℕ) → has (cond b (x ∷ l) l) y ≡ ((b && eqb y x) || has l y)
 unfolding some
@@ -57,6 +60,11 @@ has-keep-to p [] y h = absurd h
 has-keep-to p (x ∷ xs) y h = or-e (p x && eqb y x) (has (keep p xs) y) (subst T (has-cond (p x) x (keep p xs) y) h)
     (λ k. (subst (λ (w : ℕ). T (p w)) (sym (eqb→eq y x (and-r (p x) (eqb y x) k))) (and-l (p x) (eqb y x) k), or-i-l (eqb y x) (some (eqb y) xs) (and-r (p x) (eqb y x) k)))
     (λ k. let r : T (p y) × T (has xs y) = has-keep-to p xs y k in (r .0, or-i-r (eqb y x) (some (eqb y) xs) (r .1)))
+
+pub has-keep : (p : ℕ → Bool) (l : List ℕ) (y : ℕ) → has (keep p l) y ≡ (has l y && p y)
+has-keep p l y = same (has (keep p l) y) (has l y && p y)
+    (λ h. let r : T (p y) × T (has l y) = has-keep-to p l y h in and-i (has l y) (p y) (r .1) (r .0))
+    (λ h. has-keep-from p l y (and-r (has l y) (p y) h) (and-l (has l y) (p y) h))
 
 pub some-append : (p : ℕ → Bool) (xs ys : List ℕ) → some p (xs ++ ys) ≡ (some p xs || some p ys)
 unfolding some
@@ -145,6 +153,12 @@ downFrom-at zero i h = absurd (omega arith)
 downFrom-at (suc n) zero h = omega arith
 downFrom-at (suc n) (suc i) h = let e : suc n - 1 - suc i ≡ n - 1 - i = omega arith in e ∙ downFrom-at n i (omega arith)
 
+-- either order taken twice gives each row back
+pub order-back : (r : Bool) (n y : ℕ) → y < n → getD (ordered r n) (getD (ordered r n) y 0) 0 ≡ y
+unfolding ordered
+order-back true n y h = rw (← downFrom-at n y h, ← downFrom-at n (n - 1 - y) (omega arith)) (omega arith)
+order-back false n y h = rw (← upTo-at n y h, ← upTo-at n y h)
+
 -- ---- what is kept
 
 cond-append : (b : Bool) (x : ℕ) (l m n : List ℕ) → l ≡ m ++ n → cond b (x ∷ l) l ≡ cond b (x ∷ m) m ++ n
@@ -156,13 +170,14 @@ unfolding keep
 keep-append p [] ys = refl
 keep-append p (x ∷ xs) ys = cond-append (p x) x _ _ _ (keep-append p xs ys)
 
--- tests that agree on the rows keep the same rows
+-- tests that agree on the entries keep the same ones
+pub keep-entries : (p q : ℕ → Bool) (l : List ℕ) → ((i : ℕ) → i < length l → p (getD l i 0) ≡ q (getD l i 0)) → keep p l ≡ keep q l
+unfolding keep
+keep-entries p q [] h = refl
+keep-entries p q (x ∷ xs) h = rw (h 0 (omega arith), keep-entries p q xs (λ i k. h (suc i) (omega arith)))
+
 pub keep-upTo : (p q : ℕ → Bool) (n : ℕ) → ((y : ℕ) → y < n → p y ≡ q y) → keep p (upTo n) ≡ keep q (upTo n)
-unfolding upTo keep
-keep-upTo p q zero h = refl
-keep-upTo p q (suc n) h =
-    keep-append p (upTo n) (n ∷ [])
-    ∙ rw (keep-upTo p q n (λ y l. h y (omega arith)), h n (omega arith)) (sym (keep-append q (upTo n) (n ∷ [])))
+keep-upTo p q n h = keep-entries p q (upTo n) (λ i k. let l : i < n = rw length-upTo at k in rw (← upTo-at n i l) (h i l))
 
 -- a test that fails at each entry keeps none, one that holds at each keeps all
 pub keep-none : (p : ℕ → Bool) (l : List ℕ) → ((i : ℕ) → i < length l → p (getD l i 0) ≡ false) → keep p l ≡ []
@@ -249,6 +264,61 @@ keep-monotone r p (x ∷ xs) m = by (p x) (keep-monotone r p xs (λ i j h k. m (
     by true k i zero h l = absurd (omega arith)
     by true k zero (suc j) h l = let q = kept-within p xs j (omega arith) in subst (Before r x) (q .2) (m 0 (suc (q .0)) (omega arith) (omega arith))
     by true k (suc i) (suc j) h l = k i j (omega arith) (omega arith)
+
+-- ---- places in a list
+
+-- a place counted from 1 or above is positive exactly if y is there
+pub place-some : (i : ℕ) (l : List ℕ) (y : ℕ) → 0 < i → ltb 0 (placeFrom i l y) ≡ has l y
+unfolding placeFrom some
+place-some i [] y h = refl
+place-some i (x ∷ xs) y h = by (eqb y x) (place-some (i + 1) xs y (omega arith))
+  where
+    by : (b : Bool) → ltb 0 (placeFrom (i + 1) xs y) ≡ has xs y → ltb 0 (cond b i (placeFrom (i + 1) xs y)) ≡ (b || has xs y)
+    by true k = lt-ltb 0 i h
+    by false k = k
+
+-- what stands behind another is not that one
+behind-other : (r : Bool) (x y : ℕ) → Before r x y → eqb y x ≡ false
+unfolding Before
+behind-other false x y h = ne-eqb y x (λ e. omega arith)
+behind-other true x y h = ne-eqb y x (λ e. omega arith)
+
+module _ (r : Bool) where
+  monotone-behind : (x : ℕ) (xs : List ℕ) → Monotone r (x ∷ xs) → Monotone r xs
+  unfolding Monotone
+  monotone-behind x xs m i j h k = m (suc i) (suc j) (omega arith) (omega arith)
+
+  not-first : (x : ℕ) (xs : List ℕ) → Monotone r (x ∷ xs) → (i : ℕ) → i < length xs → eqb (getD xs i 0) x ≡ false
+  unfolding Monotone
+  not-first x xs m i h = behind-other r x (getD xs i 0) (m 0 (suc i) (omega arith) (omega arith))
+
+  -- in what is kept of a list in order, an entry's place is one more than those kept before it
+  pub place-kept : (p : ℕ → Bool) (l : List ℕ) → Monotone r l → (k i : ℕ) → i < length l → p (getD l i 0) ≡ true → placeFrom k (keep p l) (getD l i 0) ≡ k + length (keep p (take i l))
+  unfolding placeFrom keep
+  place-kept p [] m k i h e = absurd (omega arith)
+  place-kept p (x ∷ xs) m k zero h e = rw (e, eq-eqb x x refl) (omega arith)
+  place-kept p (x ∷ xs) m k (suc i) h e = by (p x) (λ k. place-kept p xs (monotone-behind x xs m) k i (omega arith) e)
+    where
+      y : ℕ
+      y = getD xs i 0
+
+      by : (b : Bool) → ((k : ℕ) → placeFrom k (keep p xs) y ≡ k + length (keep p (take i xs)))
+          → placeFrom k (cond b (x ∷ keep p xs) (keep p xs)) y ≡ k + length (cond b (x ∷ keep p (take i xs)) (keep p (take i xs)))
+      by true q = rw (not-first x xs m i (omega arith)) (q (k + 1) ∙ omega arith)
+      by false q = q k
+
+  -- so in a list in order the entry at i has the place i
+  pub place-entry : (l : List ℕ) → Monotone r l → (k i : ℕ) → i < length l → placeFrom k l (getD l i 0) ≡ k + i
+  place-entry l m k i h = rw (keep-all l) at (place-kept (λ y. true) l m k i h refl) ∙ rw (keep-all (take i l), length-take) (omega arith)
+
+  -- and a position is the place
+  pub keepAt-places : (f : ℕ → ℕ → Bool) (l : List ℕ) → Monotone r l → (k : ℕ) → keepAt f k l ≡ keep (λ y. f y (placeFrom k l y)) l
+  unfolding keepAt keep placeFrom
+  keepAt-places f [] m k = refl
+  keepAt-places f (x ∷ xs) m k =
+      let e : keep (λ y. f y (cond (eqb y x) k (placeFrom (k + 1) xs y))) xs ≡ keep (λ y. f y (placeFrom (k + 1) xs y)) xs =
+      keep-entries _ _ xs (λ i h. rw (not-first x xs m i h)) in
+      rw (eq-eqb x x refl, e, keepAt-places f xs (monotone-behind x xs m) (k + 1))
 
 -- ---- the lowest number
 

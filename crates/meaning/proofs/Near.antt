@@ -19,7 +19,8 @@ use Rattle.meaning.proofs.Lists.{some-from, has-upTo-from}
 use Rattle.meaning.proofs.Trees.{tree-zero, tree-row}
 use Rattle.meaning.proofs.Windows.{some-below}
 use Rattle.meaning.proofs.Free.{ok}
-use Rattle.meaning.proofs.Turning.{inverse-on}
+use Rattle.meaning.proofs.Places.{placed-on}
+use Rattle.meaning.proofs.Turning.{inverse-placed}
 use Rattle.meaning.proofs.Backward.{before, backs}
 
 -- ---- what a chain may come by
@@ -97,7 +98,7 @@ module _ (t : List ℕ) (literals : List Float) where
     where
       one : (w : ℕ) → w < rows t → ahead t a from w ≡ true → before t literals c d b (λ z. f z && near z) w ≡ before t literals c d b g w
       one w m r = some-below _ _ (rows t) (λ z n. guarded (f z) (near z) (g z) (passes t (testOf d) z) (ok t literals b z) (on t (axisOf (inverseOf c)) z w)
-          (λ o p. let x : ahead t (node op a b c d) from z ≡ true = ahead-more t op a b c d from w z m r (inverse-on t c w z ∙ o) p in (k .1 z n x, h z n x)))
+          (λ o p. let x : ahead t (node op a b c d) from z ≡ true = ahead-more t op a b c d from w z m r (sym (placed-on t (axisOf c) w z n) ∙ inverse-placed t c w z m n ∙ placed-on t (axisOf (inverseOf c)) z w m ∙ o) p in (k .1 z n x, h z n x)))
 
 -- ---- rows, stated over what code has read of them
 

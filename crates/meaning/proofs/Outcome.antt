@@ -1,30 +1,26 @@
 -- What evaluation answers and leaves in its output, check by check, stated over what code has found.
 -- Assumes nothing.
-use Prim.Native.Nat.{ℕ, _%_, _<_, _≤_}
+use Prim.Native.Nat.{ℕ, _<_, _≤_}
 use mathlib.Core.Path.{_≡_, sym, ap, _∙_}
-use mathlib.Core.Bool.{_&&_, not}
 use mathlib.Core.List.{List}
 use lib.ListN.{length}
-use lib.Dec.{leb, eqb, leb→le}
+use lib.Dec.{leb}
 use lib.Ieee.{Float}
 use native.Mathlib.Omega.{arith}
 use borrow.Author.Tests.{le-leb, lt-leb, ne-eqb}
-use Rattle.meaning.specs.Lists.{upTo, some}
-use Rattle.meaning.specs.Table.{rows, mostRows, lengthAllowed, broken, accepted}
+use Rattle.meaning.specs.Table.{rows, mostRows}
 use Rattle.meaning.specs.Rows.{rowsOf, mostPathRows}
 use Rattle.meaning.specs.Tree.{tree}
 use Rattle.meaning.specs.Meaning.{select}
 use Rattle.meaning.specs.Answers.{answer, check, tableAnswer, pathAnswer, selected, handed, evaluation, output, evaluated}
 use Rattle.meaning.specs.Promises.{EvaluatesPath}
 use Rattle.meaning.specs.declared.Answer.{Answer}
-use Rattle.meaning.proofs.Bools.{and-l, and-r, truly}
+use Rattle.meaning.proofs.Tables.{few-rows}
 use Rattle.meaning.proofs.Checks.{table-passes, table-stops, table-accepted, path-accepted, path-passes, path-stops, most-rows}
 
 -- a table whose answer is 0 has at most 4,096 rows, a path whose answer is 0 at most 256
 pub table-fits : (t : List ℕ) → tableAnswer t .number ≡ 0 → rows t ≤ mostRows
-unfolding accepted lengthAllowed
-table-fits t e = leb→le (rows t) mostRows (and-r (eqb (length t % 4) 0 && leb 1 (rows t)) (leb (rows t) mostRows)
-    (and-l (lengthAllowed t) (not (some (broken t) (upTo (rows t)))) (truly (table-accepted t e))))
+table-fits t e = few-rows t (table-accepted t e)
 
 pub path-fits : (p : List ℕ) (literals : List Float) → pathAnswer p literals .number ≡ 0 → rowsOf p ≤ mostPathRows
 path-fits p literals e = most-rows p (path-accepted p literals e .0 .allowed)

@@ -13,7 +13,7 @@ use native.Mathlib.Omega.{arith}
 use borrow.Author.Tests.{lt-ltb, le-ltb, eq-eqb, ne-eqb, le-leb}
 use Rattle.meaning.specs.Lists.{keep, some, upTo, has}
 use Rattle.meaning.specs.Table.{rows, end, accepted}
-use Rattle.meaning.specs.Axis.{Axis, axisOf, inside, on, onAxis, testOf, passes}
+use Rattle.meaning.specs.Axis.{Axis, axisOf, lastAxis, inside, on, testOf, passes}
 use Rattle.meaning.specs.Axis as A
 use Rattle.meaning.specs.Answers.{answer, pathTree, pathChecks, pathAnswer, selected, evaluation, output, evaluated}
 use Rattle.meaning.specs.Rows.{pathLengthAllowed, opOf, fieldsOf, code, isPath, isStep, isLiteral, isUnknown, isLink, takes, mayMiss, goodLink, goodTest, goodField, goodFields, follow, firstLink, secondLink, links, linkedBelow, linksAgain, misplaced, brokenRow}
@@ -23,8 +23,9 @@ use Rattle.meaning.specs.Meaning.{isAbsolute, startOf, select, walk}
 use Rattle.meaning.specs.Turning.{counting}
 use Rattle.meaning.specs.Cases.{line}
 use Rattle.meaning.specs.declared.Answer.{Answer}
-use Rattle.meaning.proofs.Bools.{lt-or-ge, same}
-use Rattle.meaning.proofs.Lists.{has-keep-to, has-keep-from, has-upTo-from, length-upTo, keep-upTo, keep-shorter}
+use Rattle.meaning.proofs.Bools.{lt-or-ge, is-true}
+use Rattle.meaning.proofs.Lists.{has-keep, has-upTo-from, length-upTo, keep-upTo, keep-shorter}
+use Rattle.meaning.proofs.Places.{placed, placed-on}
 use Rattle.meaning.proofs.Free.{ok, free-walk}
 use Rattle.meaning.proofs.Windows.{some-one}
 use Rattle.meaning.proofs.Exactly.{selects, evaluation-exactly}
@@ -47,8 +48,8 @@ one-of-two false m n = refl
 
 -- y lies on exactly one of them: the axes of x on which it lies are one in number. Less than an accepted table and two of its nodes is
 -- needed: for any two numbers one is below the other or they are equal, and `inside` parts the later ones and the earlier ones in two
-pub five-parts : (t : List ℕ) (x y : ℕ) → length (keep (λ axis. onAxis t axis x y) fiveParts) ≡ 1
-unfolding onAxis axisOf on inside keep
+pub five-parts : (t : List ℕ) (x y : ℕ) → length (keep (λ axis. on t (axisOf axis) x y) fiveParts) ≡ 1
+unfolding axisOf on inside keep
 five-parts t x y = elim (lt-or-ge x y) [
   | inl l ↦ rw (ne-eqb x y (λ e. omega arith), lt-ltb x y l, le-ltb y x (omega arith)) (one-of-two (leb y (end t x)) 3 7)
   | inr g ↦ elim (lt-or-ge y x) [
@@ -80,40 +81,40 @@ axisPath axis = line 24 0 0 axis 0 (line 22 1 0 0 0 [])
 abbrev pub answered : List ℕ → ℕ → ℕ → List ℕ → List ℕ
 answered t axis x out = take (evaluation t (axisPath axis) [] x (length out) .place) (evaluated t (axisPath axis) [] x out)
 
-axis-path-good : (axis : ℕ) → axis ≤ 10 → pathAnswer (axisPath axis) [] ≡ answer 0 2
+axis-path-good : (axis : ℕ) → axis ≤ lastAxis → pathAnswer (axisPath axis) [] ≡ answer 0 2
 unfolding pathAnswer pathChecks some upTo pathLengthAllowed opOf fieldsOf code isPath isStep isUnknown isLink takes mayMiss goodLink goodTest goodField goodFields follow firstLink secondLink links linkedBelow linksAgain misplaced brokenRow linked tree depth
-axis-path-good axis h = rw (le-leb axis 10 h)
+axis-path-good axis h = rw (le-leb axis lastAxis h)
 
 axis-path-tree : (axis : ℕ) → pathTree (axisPath axis) ≡ node R.relative (node R.step none none axis 0) none 0 0
 unfolding tree opOf linked fieldsOf isLink isLiteral isStep code follow firstLink secondLink indexOrAxis testAt
 axis-path-tree axis = refl
 
-module _ (t : List ℕ) (axis x : ℕ) (h : axis ≤ 10) (below : x < rows t) where
-  -- it selects the nodes on the axis
-  axis-path-selects : selected t (axisPath axis) [] x ≡ keep (onAxis t axis x) (upTo (rows t))
-  unfolding select walk startOf isAbsolute code counting onAxis testOf passes ok
+module _ (t : List ℕ) (axis x : ℕ) (below : x < rows t) where
+  -- it selects the nodes that have a place on the axis
+  axis-path-selects : selected t (axisPath axis) [] x ≡ keep (placed t (axisOf axis) x) (upTo (rows t))
+  unfolding select walk startOf isAbsolute code counting testOf passes ok
   axis-path-selects =
       rw (axis-path-tree axis)
       (free-walk t [] R.step none none axis 0 (keep (eqb x) (upTo (rows t))) refl
-      ∙ keep-upTo _ _ (rows t) (λ y l. some-one (λ z. on t (axisOf axis) z y && true) (rows t) x below ∙ rw (le-leb axis 10 h) (and-true (on t (axisOf axis) x y))))
+      ∙ keep-upTo _ _ (rows t) (λ y l. some-one (λ z. placed t (axisOf axis) z y && true) (rows t) x below ∙ and-true (placed t (axisOf axis) x y)))
 
-  module _ (acc : accepted t ≡ true) (out : List ℕ) (room : rows t ≤ length out) where
+  module _ (h : axis ≤ lastAxis) (acc : accepted t ≡ true) (out : List ℕ) (room : rows t ≤ length out) where
     -- where there is room for every node it is answered 0, with their count, and the nodes are written
     pub axis-path-answered : evaluation t (axisPath axis) [] x (length out) ≡ answer 0 (length (selected t (axisPath axis) [] x))
     axis-path-answered =
         evaluation-exactly t (axisPath axis) [] x (length out) _ .1
         (selects acc (path-accepted (axisPath axis) [] (ap (λ (a : Answer). a .number) (axis-path-good axis h))) below
-        (rw axis-path-selects (omega (arith, keep-shorter (onAxis t axis x) (upTo (rows t)), length-upTo (rows t)))))
+        (rw axis-path-selects (omega (arith, keep-shorter (placed t (axisOf axis) x) (upTo (rows t)), length-upTo (rows t)))))
 
     answered-nodes : answered t axis x out ≡ selected t (axisPath axis) [] x
     unfolding evaluated output
     answered-nodes = rw axis-path-answered (take-append-seam (selected t (axisPath axis) [] x) _)
 
-    answered-has : (y : ℕ) → y < rows t → has (answered t axis x out) y ≡ onAxis t axis x y
-    answered-has y l = rw (answered-nodes, axis-path-selects)
-        (same (has (keep (onAxis t axis x) (upTo (rows t))) y) (onAxis t axis x y)
-        (λ k. has-keep-to (onAxis t axis x) (upTo (rows t)) y k .0)
-        (λ k. has-keep-from (onAxis t axis x) (upTo (rows t)) y k (has-upTo-from (rows t) y l)))
+    answered-has : (y : ℕ) → y < rows t → has (answered t axis x out) y ≡ on t (axisOf axis) x y
+    answered-has y l =
+        rw (answered-nodes, axis-path-selects)
+        (has-keep (placed t (axisOf axis) x) (upTo (rows t)) y
+        ∙ rw (is-true (has (upTo (rows t)) y) (has-upTo-from (rows t) y l)) (placed-on t (axisOf axis) x y l))
 
 -- the five answers from x, each 0 where there is room for every node (`axis-path-answered`), together list every node once: it is in
 -- exactly one of them, and each of them ascends (`evaluate-ascending`)
@@ -121,5 +122,5 @@ pub five-answers : (t : List ℕ) → accepted t ≡ true → (x : ℕ) → x < 
     → (y : ℕ) → y < rows t → length (keep (λ axis. has (answered t axis x out) y) fiveParts) ≡ 1
 unfolding keep
 five-answers t acc x h out room y l =
-    let lies : (axis : ℕ) → axis ≤ 10 → has (answered t axis x out) y ≡ onAxis t axis x y = λ axis k. answered-has t axis x k h acc out room y l in
+    let lies : (axis : ℕ) → axis ≤ lastAxis → has (answered t axis x out) y ≡ on t (axisOf axis) x y = λ axis k. answered-has t axis x h k acc out room y l in
     rw (lies 0 (omega arith), lies 4 (omega arith), lies 3 (omega arith), lies 8 (omega arith), lies 7 (omega arith)) (five-parts t x y)

@@ -10,7 +10,7 @@ use native.Mathlib.Omega.{arith}
 use native.Mathlib.Nat.{eq-or-lt-of-le}
 use borrow.Author.Tests.{ne-eqb}
 use Rattle.meaning.specs.Lists.{upTo, some}
-use Rattle.meaning.specs.Table.{parentOf, rows, end, lengthAllowed, goodRoot, nearest, goodParent, goodRow, broken, accepted}
+use Rattle.meaning.specs.Table.{mostRows, parentOf, rows, end, lengthAllowed, goodRoot, nearest, goodParent, goodRow, broken, accepted}
 use Rattle.meaning.proofs.Bools.{and-l, and-r, and-i, truly, is-false, not-false, not-e, lt-or-ge}
 use Rattle.meaning.proofs.Lists.{below-none, some-from, has-upTo-from}
 
@@ -60,6 +60,13 @@ module _ (t : List ℕ) (acc : accepted t ≡ true) where
       let l : T (lengthAllowed t) = allowed in
       let f : T (leb 1 (rows t)) = search (and-l, and-r) in
       omega (arith, leb→le)
+
+  pub few-rows : rows t ≤ mostRows
+  unfolding lengthAllowed
+  few-rows =
+      let l : T (lengthAllowed t) = allowed in
+      let f : T (leb (rows t) mostRows) = search (and-l, and-r) in
+      leb→le (rows t) mostRows f
 
   -- row 0's parent field is filler, and it is 0
   pub root-parent : parentOf t 0 ≡ 0

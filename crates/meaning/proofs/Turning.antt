@@ -19,6 +19,7 @@ use Rattle.meaning.specs.Meaning.{isAbsolute, startOf, select, walk}
 use Rattle.meaning.specs.Turning.{counting, counts, inverses, inverseOf, predicates, test, back, turned}
 use Rattle.meaning.proofs.Bools.{and-l, and-r, and-i, or-none-l, or-none-r, same, eq→eqb}
 use Rattle.meaning.proofs.Lists.{some-to, some-from, has-keep-to, has-keep-from, has-upTo-to, has-upTo-from}
+use Rattle.meaning.proofs.Places.{placed, placed-on}
 use Rattle.meaning.proofs.Axes.{inverse, inverse-axis}
 use Rattle.meaning.proofs.Free.{ok, fits, free-walk}
 
@@ -43,9 +44,9 @@ pub inverse-number : (n : ℕ) → axisOf (inverseOf n) ≡ inverse (axisOf n)
 unfolding axisOf inverseOf inverse
 inverse-number n = sym (List·getD-map axisOf inverses n 0) ∙ List·getD-map inverse axes n A.self
 
--- y is on an axis of x exactly when x is on the axis of the inverse number of y
-pub inverse-on : (t : List ℕ) (c x y : ℕ) → on t (axisOf c) x y ≡ on t (axisOf (inverseOf c)) y x
-inverse-on t c x y = rw (inverse-number c) (inverse-axis t (axisOf c) x y)
+-- a node has a place on an axis of another exactly if the other has one on the axis of the inverse number of it
+pub inverse-placed : (t : List ℕ) (c x y : ℕ) → x < rows t → y < rows t → placed t (axisOf c) x y ≡ placed t (axisOf (inverseOf c)) y x
+inverse-placed t c x y h k = rw (inverse-number c) (inverse-axis t (axisOf c) x y h k)
 
 -- ---- chains of nodes
 
@@ -61,7 +62,7 @@ module _ (t : List ℕ) (literals : List Float) where
   -- y is reached from x, the last step's test and predicates left out
   unfoldable Bare : Tree → ℕ → ℕ → Type 0
   Bare none x y = x ≡ y
-  Bare (node op a b c d) x y = (w : ℕ) × Bare a x w × T (fit a w) × (w < rows t) × T (on t (axisOf c) w y)
+  Bare (node op a b c d) x y = (w : ℕ) × Bare a x w × T (fit a w) × (w < rows t) × T (placed t (axisOf c) w y)
 
   -- y is reached from x
   abbrev Chain : Tree → ℕ → ℕ → Type 0
@@ -75,12 +76,12 @@ module _ (t : List ℕ) (literals : List Float) where
       (eqb→eq x y (r .0), tt, has-upTo-to (rows t) y (r .1))
   walk-to (node op a b c d) h x y k =
       let before : List ℕ = walk t literals a (start t x) in
-      let reached : ℕ → ℕ → Bool = λ v z. on t (axisOf c) z v && fits t literals (testOf d) b v in
+      let reached : ℕ → ℕ → Bool = λ v z. placed t (axisOf c) z v && fits t literals (testOf d) b v in
       let r : T (some (reached y) before) × T (has (upTo (rows t)) y) =
       has-keep-to (λ v. some (reached v) before) (upTo (rows t)) y (rw (free-walk t literals op a b c d (start t x) (or-none-r (counts a) (counting b) h)) at k) in
       let q : (z : ℕ) × T (reached y z) × T (has before z) = some-to (reached y) before (r .0) in
       let i : Chain a x (q .0) = walk-to a (or-none-l (counts a) (counting b) h) x (q .0) (q .2) in
-      let o : Bool = on t (axisOf c) (q .0) y in
+      let o : Bool = placed t (axisOf c) (q .0) y in
       let f : Bool = fit (node op a b c d) y in
       ((q .0, i .0, i .1, i .2, and-l o f (q .1)), and-r o f (q .1), has-upTo-to (rows t) y (r .1))
 
@@ -89,10 +90,10 @@ module _ (t : List ℕ) (literals : List Float) where
   walk-from none h x y k = has-keep-from (eqb x) (upTo (rows t)) y (eq→eqb x y (k .0)) (has-upTo-from (rows t) y (k .2))
   walk-from (node op a b c d) h x y k =
       let before : List ℕ = walk t literals a (start t x) in
-      let reached : ℕ → ℕ → Bool = λ v z. on t (axisOf c) z v && fits t literals (testOf d) b v in
+      let reached : ℕ → ℕ → Bool = λ v z. placed t (axisOf c) z v && fits t literals (testOf d) b v in
       let m : Bare (node op a b c d) x y = k .0 in
       let i : T (has before (m .0)) = walk-from a (or-none-l (counts a) (counting b) h) x (m .0) (m .1, m .2, m .3) in
-      let r : T (reached y (m .0)) = and-i (on t (axisOf c) (m .0) y) (fit (node op a b c d) y) (m .4) (k .1) in
+      let r : T (reached y (m .0)) = and-i (placed t (axisOf c) (m .0) y) (fit (node op a b c d) y) (m .4) (k .1) in
       rw (free-walk t literals op a b c d (start t x) (or-none-r (counts a) (counting b) h))
       (has-keep-from (λ v. some (reached v) before) (upTo (rows t)) y (some-from (reached y) before (m .0) r i) (has-upTo-from (rows t) y (k .2)))
 
@@ -104,14 +105,14 @@ module _ (t : List ℕ) (literals : List Float) where
       let next : Tree = node R.step done (predicates a) (inverseOf c) (test a) in
       let r : (w : ℕ) × Chain next y w × Bare a x w = turn-to a next y x k in
       let m : Bare next y (r .0) = r .1 .0 in
-      (m .0, (m .1, m .2, m .3), (r .0, r .2, r .1 .1, r .1 .2, subst T (sym (inverse-on t c (r .0) (m .0))) (m .4)))
+      (m .0, (m .1, m .2, m .3), (r .0, r .2, r .1 .1, r .1 .2, subst T (sym (inverse-placed t c (r .0) (m .0) (r .1 .2) (m .3))) (m .4)))
 
   turn-from : (s done : Tree) (y x z : ℕ) → Chain done y z → Bare s x z → Chain (back s done) y x
   unfolding back Bare test predicates
   turn-from none done y x z k e = subst (Chain done y) (sym e) k
   turn-from (node op a b c d) done y x z k m =
       turn-from a (node R.step done (predicates a) (inverseOf c) (test a)) y x (m .0)
-      ((z, k .0, k .1, k .2, subst T (inverse-on t c (m .0) z) (m .4)), m .2, m .3) (m .1)
+      ((z, k .0, k .1, k .2, subst T (inverse-placed t c (m .0) z (m .3) (k .2)) (m .4)), m .2, m .3) (m .1)
 
 -- ---- the turned path
 
@@ -122,14 +123,14 @@ first s = node R.step none (predicates s) 0 (test s)
 module _ (t : List ℕ) (literals : List Float) (s : Tree) where
   turned-to : (x y : ℕ) → Chain t literals s x y → Chain t literals (back s (first s)) y x
   unfolding Bare axisOf on passes testOf test predicates ok
-  turned-to x y k = turn-from t literals s (first s) y x y ((y, refl, tt, k .2, eqb-refl y), k .1, k .2) (k .0)
+  turned-to x y k = turn-from t literals s (first s) y x y ((y, refl, tt, k .2, subst T (sym (placed-on t A.self y y (k .2))) (eqb-refl y)), k .1, k .2) (k .0)
 
   turned-from : (x y : ℕ) → Chain t literals (back s (first s)) y x → Chain t literals s x y
   unfolding Bare axisOf on test predicates
   turned-from x y k =
       let r : (z : ℕ) × Chain t literals (first s) y z × Bare t literals s x z = turn-to t literals s (first s) y x k in
       let m : Bare t literals (first s) y (r .0) = r .1 .0 in
-      subst (Chain t literals s x) (sym (m .1 ∙ eqb→eq (m .0) (r .0) (m .4))) (r .2, r .1 .1, r .1 .2)
+      subst (Chain t literals s x) (sym (m .1 ∙ eqb→eq (m .0) (r .0) (subst T (placed-on t A.self (m .0) (r .0) (r .1 .2)) (m .4)))) (r .2, r .1 .1, r .1 .2)
 
 -- a relative path walks from the given node
 select-relative : (t : List ℕ) (literals : List Float) (op : Op) (s b : Tree) (c d x : ℕ) → isAbsolute op ≡ false → select t literals (node op s b c d) x ≡ walk t literals s (start t x)

@@ -8,10 +8,9 @@ use mathlib.Core.List.{List}
 use lib.ListN.{length}
 use lib.Ieee.{Float}
 use denote.Ref.{RefT}
-use Rattle.meaning.specs.Axis.{onAxis}
-use Rattle.meaning.specs.Answers.{answer, tableAnswer, pathAnswer, evaluation, evaluated, turning, turnedOutput}
+use Rattle.meaning.specs.Answers.{answer, tableAnswer, axisPlace, pathAnswer, evaluation, evaluated, turning, turnedOutput}
 use Rattle.meaning.specs.View.{partFrom, partOf}
-use Rattle.meaning.specs.Promises.{ChecksTable, AnswersAxis, ChecksPath, EvaluatesPath, TurnsPath, FindsPart, ShowsPart}
+use Rattle.meaning.specs.Promises.{ChecksTable, AnswersPlace, ChecksPath, EvaluatesPath, TurnsPath, FindsPart, ShowsPart}
 use Rattle.meaning.specs.declared.Answer.{Answer}
 
 -- any two outcomes that a promise allows are equal
@@ -35,8 +34,8 @@ unique-parts promise whole parts back u x y p q = sym (back x) ∙ ap parts (u (
 pub check-table-unique : (t : List ℕ) → Unique (ChecksTable t)
 check-table-unique t = unique (tableAnswer t)
 
-pub on-axis-unique : (t : List ℕ) (axis x y : ℕ) → Unique (AnswersAxis t axis x y)
-on-axis-unique t axis x y = unique (onAxis t axis x y)
+pub axis-place-unique : (t : List ℕ) (axis x y : ℕ) → Unique (AnswersPlace t axis x y)
+axis-place-unique t axis x y = unique (axisPlace t axis x y)
 
 pub check-path-unique : (p : List ℕ) (literals : List Float) → Unique (ChecksPath p literals)
 check-path-unique p literals = unique (pathAnswer p literals)

@@ -14,14 +14,13 @@ use Rattle.meaning.specs.Table.{end}
 use Rattle.meaning.specs.Axis.{inside, on}
 use Rattle.meaning.specs.Axis as A
 use Rattle.meaning.proofs.Bools.{eqb-sym, lt-or-ge, eq-or-ne}
-use Rattle.meaning.proofs.Lists.{some-append, some-same, some-last, none-below}
+use Rattle.meaning.proofs.Lists.{some-members, some-append, some-same, some-last, has-upTo-to, none-below}
 
 -- ---- some number of a window
 
 -- tests that agree below n hold at some number below n alike
 pub some-below : (p q : ℕ → Bool) (n : ℕ) → ((x : ℕ) → x < n → p x ≡ q x) → some p (upTo n) ≡ some q (upTo n)
-some-below p q zero h = unfold upTo some in refl
-some-below p q (suc n) h = some-last p n ∙ rw (some-below p q n (λ x l. h x (omega arith)), h n (omega arith)) (sym (some-last q n))
+some-below p q n h = some-members p q (upTo n) (λ x m. h x (has-upTo-to n x m))
 
 -- one test or the other
 pub some-or : (p q : ℕ → Bool) (l : List ℕ) → some (λ x. p x || q x) l ≡ (some p l || some q l)

@@ -2,13 +2,14 @@
 -- Checks run in the order of the numbers; the first that applies is given, and no other.
 -- Assumes nothing: these are definitions.
 use Prim.Native.Nat.{ℕ, _+_, _*_}
-use mathlib.Core.Bool.{Bool, false, _||_, not, cond}
+use mathlib.Core.Bool.{Bool, false, _&&_, _||_, not, cond}
 use mathlib.Core.List.{List, _++_}
 use lib.ListN.{length, drop}
 use lib.Dec.{leb, ltb, eqb}
 use lib.Ieee.{Float}
 use Rattle.meaning.specs.Lists.{upTo, some, lowest}
-use Rattle.meaning.specs.Table.{rows, lengthAllowed, broken}
+use Rattle.meaning.specs.Table.{rows, lengthAllowed, broken, accepted}
+use Rattle.meaning.specs.Axis.{axisOf, lastAxis, place}
 use Rattle.meaning.specs.Rows.{rowsOf, pathLengthAllowed, mostPathRows, badLiteralAt, brokenRow}
 use Rattle.meaning.specs.Tree.{Tree, none, node, tree, depth, mostDepth}
 use Rattle.meaning.specs.Meaning.{select, isAbsolute}
@@ -45,6 +46,14 @@ pathChecks p literals next =
 -- the table checker: the place of its 0 is the row count
 unfoldable pub tableAnswer : List ℕ → Answer
 tableAnswer t = tableChecks t (answer 0 (rows t))
+
+-- may a place be asked at all? The table is accepted, the number is an axis's, and x and y are rows
+unfoldable pub askable : List ℕ → ℕ → ℕ → ℕ → Bool
+askable t axis x y = accepted t && leb axis lastAxis && ltb x (rows t) && ltb y (rows t)
+
+-- the place of y on the axis with this number of x; 0 where it is not there or may not be asked
+unfoldable pub axisPlace : List ℕ → ℕ → ℕ → ℕ → ℕ
+axisPlace t axis x y = cond (askable t axis x y) (place t (axisOf axis) x y) 0
 
 -- the path checker: the place of its 0 is the row count
 unfoldable pub pathAnswer : List ℕ → List Float → Answer

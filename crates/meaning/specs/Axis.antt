@@ -1,11 +1,12 @@
--- The eleven axes, the tests and an axis's candidates (document 01, "The path form" and "Meaning").
+-- The eleven axes, the tests, an axis's nodes with their places and its candidates (document 01, "The path form" and "Meaning";
+-- document 02, W-203).
 -- Assumes nothing: these are definitions.
 use Prim.Native.Nat.{ℕ, _-_}
 use mathlib.Core.Bool.{Bool, true, false, _&&_, _||_, not, cond}
 use mathlib.Core.List.{List, [], _∷_}
 use lib.ListN.{getD}
 use lib.Dec.{leb, ltb, eqb}
-use Rattle.meaning.specs.Lists.{upTo, downFrom, keep}
+use Rattle.meaning.specs.Lists.{upTo, downFrom, keep, placeFrom}
 use Rattle.meaning.specs.Table.{kind, name, parentOf, rows, end}
 
 pub data Axis : Type 0 where
@@ -16,6 +17,10 @@ abbrev pub axes : List Axis
 axes =
     self ∷ child ∷ parent ∷ descendant ∷ ancestor ∷ descendant-or-self ∷ ancestor-or-self
     ∷ following ∷ preceding ∷ following-sibling ∷ preceding-sibling ∷ []
+
+-- the number of the last one
+abbrev pub lastAxis : ℕ
+lastAxis = 10
 
 unfoldable pub axisOf : ℕ → Axis
 axisOf n = getD axes n self
@@ -39,27 +44,6 @@ on t preceding x y = ltb y x && not (inside t y x)
 on t following-sibling x y = ltb 0 x && ltb x y && eqb (parentOf t x) (parentOf t y)
 on t preceding-sibling x y = ltb 0 y && ltb y x && eqb (parentOf t y) (parentOf t x)
 
--- the same with the axis by its number; no axis has a number above 10
-unfoldable pub onAxis : List ℕ → ℕ → ℕ → ℕ → Bool
-onAxis t n x y = leb n 10 && on t (axisOf n) x y
-
-pub data Test : Type 0 where
-  any-node any-element text comment instruction : Test
-  element : ℕ → Test
-
--- tests 0 to 4, and 16 + k an element named k
-unfoldable pub testOf : ℕ → Test
-testOf n = cond (leb n 4) (getD (any-node ∷ any-element ∷ text ∷ comment ∷ instruction ∷ []) n any-node) (element (n - 16))
-
--- does node y pass the test?
-unfoldable pub passes : List ℕ → Test → ℕ → Bool
-passes t any-node y = true
-passes t any-element y = eqb (kind t y) 1
-passes t text y = eqb (kind t y) 2
-passes t comment y = eqb (kind t y) 3
-passes t instruction y = eqb (kind t y) 4
-passes t (element k) y = eqb (kind t y) 1 && eqb (name t y) k
-
 -- descending order for axes 2, 4, 6, 8, 10, ascending order for the others
 unfoldable pub isReverse : Axis → Bool
 isReverse self = false
@@ -78,6 +62,31 @@ isReverse preceding-sibling = true
 unfoldable pub ordered : Bool → ℕ → List ℕ
 ordered reverse n = cond reverse (downFrom n) (upTo n)
 
+-- the nodes on the axis of x, in axis order
+unfoldable pub axisNodes : List ℕ → Axis → ℕ → List ℕ
+axisNodes t axis x = keep (on t axis x) (ordered (isReverse axis) (rows t))
+
+-- the place of y on the axis of x, from 1 in axis order, before any test; 0 where it is not there
+unfoldable pub place : List ℕ → Axis → ℕ → ℕ → ℕ
+place t axis x y = placeFrom 1 (axisNodes t axis x) y
+
+pub data Test : Type 0 where
+  any-node any-element text comment instruction : Test
+  element : ℕ → Test
+
+-- tests 0 to 4, and 16 + k an element named k
+unfoldable pub testOf : ℕ → Test
+testOf n = cond (leb n 4) (getD (any-node ∷ any-element ∷ text ∷ comment ∷ instruction ∷ []) n any-node) (element (n - 16))
+
+-- does node y pass the test?
+unfoldable pub passes : List ℕ → Test → ℕ → Bool
+passes t any-node y = true
+passes t any-element y = eqb (kind t y) 1
+passes t text y = eqb (kind t y) 2
+passes t comment y = eqb (kind t y) 3
+passes t instruction y = eqb (kind t y) 4
+passes t (element k) y = eqb (kind t y) 1 && eqb (name t y) k
+
 -- the axis nodes of x that pass the test, in axis order
 unfoldable pub candidates : List ℕ → Axis → Test → ℕ → List ℕ
-candidates t axis test x = keep (λ y. on t axis x y && passes t test y) (ordered (isReverse axis) (rows t))
+candidates t axis test x = keep (passes t test) (axisNodes t axis x)

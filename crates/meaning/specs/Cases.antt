@@ -3,18 +3,18 @@
 -- Assumes nothing: each answer is computed from the definitions.
 use Prim.Native.Nat.{ℕ}
 use mathlib.Core.Path.{_≡_, refl}
-use mathlib.Core.List.{List, [], _∷_, _++_}
+use mathlib.Core.List.{List, [], _∷_, _++_, map}
 use lib.ListN.{length, drop, replicate}
 use lib.Ieee.{Float, binary64, ofBits}
 use lib.Ieee as Ieee
-use Rattle.meaning.specs.Lists.{upTo, downFrom, keep, some, lowest}
-use Rattle.meaning.specs.Table.{lengthAllowed, goodRoot, goodName, goodSize, nearest, goodParent, goodRow, broken}
-use Rattle.meaning.specs.Axis.{axisOf, inside, on, testOf, passes, isReverse, ordered, candidates}
+use Rattle.meaning.specs.Lists.{upTo, downFrom, keep, some, placeFrom, lowest}
+use Rattle.meaning.specs.Table.{lengthAllowed, goodRoot, goodName, goodSize, nearest, goodParent, goodRow, broken, accepted}
+use Rattle.meaning.specs.Axis.{axisOf, inside, on, testOf, passes, isReverse, ordered, axisNodes, place, candidates}
 use Rattle.meaning.specs.Rows.{rowsOf, pathLengthAllowed, badLiteral, badLiteralAt, opOf, fieldsOf, code, isNumber, isTruth, isPath, isStep, isPredicate, isLiteral, isUnknown, isLink, takes, mayMiss, goodLink, goodTest, goodField, goodFields, follow, firstLink, secondLink, links, linkedBelow, linksAgain, misplaced, brokenRow}
 use Rattle.meaning.specs.Tree.{indexOrAxis, testAt, linked, tree, depth}
 use Rattle.meaning.specs.Meaning.{float, nonzero, applied, keepAt, isAbsolute, startOf, union, value, select, walk, filtered}
 use Rattle.meaning.specs.Turning.{contextual, overPath, numeric, asks, counting, steps, counts, firstCounting, inverseOf, predicates, test, back, turned, weight, link, row, written}
-use Rattle.meaning.specs.Answers.{tableChecks, pathChecks, evaluation, output, evaluated, countingStep, absolutePath, turning, turnedOutput}
+use Rattle.meaning.specs.Answers.{tableChecks, askable, axisPlace, pathChecks, evaluation, output, evaluated, countingStep, absolutePath, turning, turnedOutput}
 use Rattle.meaning.specs.declared.Answer.{Answer}
 
 -- a row of a table, and a row of a path, before those behind it
@@ -38,10 +38,12 @@ reference =
     (node 1 4 6 0
     [])))))))))
 
--- a path run on the reference tree from a node with the nodes that it selects, or a path turned with the rows that come out
+-- a path run on the reference tree from a node with the nodes that it selects, a path turned with the rows that come out, or an axis of
+-- a node with nodes of the tree and their places
 pub data Case : Type 0 where
   selects : List ℕ → List Float → ℕ → List ℕ → Case
   turns : List ℕ → List ℕ → Case
+  stand : ℕ → ℕ → List ℕ → List ℕ → Case
 
 -- what the output slice holds before the run
 abbrev pub blank : List ℕ
@@ -56,11 +58,13 @@ unfoldable pub given : Case → List ℕ
 given (selects p literals start nodes) =
     outcome (evaluation reference p literals start (length blank)) (evaluated reference p literals start blank)
 given (turns p rows) = outcome (turning p [] (length blank)) (turnedOutput p [] blank)
+given (stand axis x nodes places) = map (axisPlace reference axis x) nodes
 
 -- what the documents list
 unfoldable pub listed : Case → List ℕ
 listed (selects p literals start nodes) = 0 ∷ length nodes ∷ nodes ++ drop (length nodes) blank
 listed (turns p rows) = 0 ∷ rowsOf rows ∷ rows ++ drop (length rows) blank
+listed (stand axis x nodes places) = places
 
 unfoldable pub each : (Case → List ℕ) → List Case → List (List ℕ)
 each f [] = []
@@ -88,6 +92,8 @@ half = ofBits binary64 0x3FE0000000000000
 -- R10 from 1, child::*[count(child::4) = 2] ; R11 from 1, child::*[0 div 0 != 0 div 0]
 -- R12 from 1, parent::*, parent::node() ; R13 turned, from 1, and turned from 8
 -- W-208: R13 turned twice, and from 1
+-- W-203: every node's place on preceding of 8 (R2), on ancestor of 9 (R4) and on following-sibling of 0; on self and preceding of 10, which
+-- is no row
 abbrev pub cases : List Case
 cases =
     selects (line 23 0 0 0 0 []) [] 5 (0 ∷ [])
@@ -127,9 +133,14 @@ cases =
     ∷ selects thirteenthTurned [] 8 (1 ∷ [])
     ∷ turns thirteenthTurned thirteenthTwice
     ∷ selects thirteenthTwice [] 1 (5 ∷ 8 ∷ 9 ∷ [])
+    ∷ stand 8 8 (upTo 10) (0 ∷ 0 ∷ 5 ∷ 4 ∷ 3 ∷ 2 ∷ 0 ∷ 1 ∷ 0 ∷ 0 ∷ [])
+    ∷ stand 4 9 (upTo 10) (3 ∷ 2 ∷ 0 ∷ 0 ∷ 0 ∷ 0 ∷ 1 ∷ 0 ∷ 0 ∷ 0 ∷ [])
+    ∷ stand 9 0 (upTo 10) (replicate 10 0)
+    ∷ stand 0 10 (10 ∷ []) (0 ∷ [])
+    ∷ stand 8 10 (3 ∷ []) (0 ∷ [])
     ∷ []
 
 -- the definitions give what the documents list
 pub r1-to-r13 : each given cases ≡ each listed cases
-unfolding each given listed upTo downFrom keep some lowest lengthAllowed goodRoot goodName goodSize nearest goodParent goodRow broken axisOf inside on testOf passes isReverse ordered candidates pathLengthAllowed badLiteral badLiteralAt opOf fieldsOf code isNumber isTruth isPath isStep isPredicate isLiteral isUnknown isLink takes mayMiss goodLink goodTest goodField goodFields follow firstLink secondLink links linkedBelow linksAgain misplaced brokenRow indexOrAxis testAt linked tree depth float nonzero applied keepAt isAbsolute startOf union value select walk filtered contextual overPath numeric asks counting steps counts firstCounting inverseOf predicates test back turned weight link row written tableChecks pathChecks evaluation output evaluated countingStep absolutePath turning turnedOutput Ieee.isNan Ieee.toBits Ieee.ofBits Ieee.ofInt Ieee.eq Ieee.ne Ieee.lt Ieee.le Ieee.add Ieee.sub Ieee.mul Ieee.div Ieee.rem Ieee.neg
+unfolding each given listed upTo downFrom keep some placeFrom lowest lengthAllowed goodRoot goodName goodSize nearest goodParent goodRow broken accepted axisOf inside on testOf passes isReverse ordered axisNodes place candidates pathLengthAllowed badLiteral badLiteralAt opOf fieldsOf code isNumber isTruth isPath isStep isPredicate isLiteral isUnknown isLink takes mayMiss goodLink goodTest goodField goodFields follow firstLink secondLink links linkedBelow linksAgain misplaced brokenRow indexOrAxis testAt linked tree depth float nonzero applied keepAt isAbsolute startOf union value select walk filtered contextual overPath numeric asks counting steps counts firstCounting inverseOf predicates test back turned weight link row written tableChecks askable axisPlace pathChecks evaluation output evaluated countingStep absolutePath turning turnedOutput Ieee.isNan Ieee.toBits Ieee.ofBits Ieee.ofInt Ieee.eq Ieee.ne Ieee.lt Ieee.le Ieee.add Ieee.sub Ieee.mul Ieee.div Ieee.rem Ieee.neg
 r1-to-r13 = refl

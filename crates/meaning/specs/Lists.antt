@@ -1,6 +1,6 @@
 -- Lists of numbers, as the definitions use them.
 -- Assumes nothing: these are definitions.
-use Prim.Native.Nat.{ℕ, zero, suc}
+use Prim.Native.Nat.{ℕ, zero, suc, _+_}
 use mathlib.Core.Bool.{Bool, false, _||_, cond}
 use mathlib.Core.List.{List, [], _∷_, _++_}
 use lib.Dec.{ltb, eqb}
@@ -28,6 +28,11 @@ some f (x ∷ xs) = f x || some f xs
 -- is y a member?
 abbrev pub has : List ℕ → ℕ → Bool
 has l y = some (eqb y) l
+
+-- the place of y in a list, counted from i; 0 where it is not there
+unfoldable pub placeFrom : ℕ → List ℕ → ℕ → ℕ
+placeFrom i [] y = 0
+placeFrom i (x ∷ xs) y = cond (eqb y x) i (placeFrom (i + 1) xs y)
 
 -- the lowest number below n at which f holds, and n where there is none
 unfoldable pub lowest : (ℕ → Bool) → ℕ → ℕ

@@ -3,13 +3,11 @@
 -- Assumes nothing: these are definitions.
 use Prim.Native.Nat.{ℕ, _+_, _*_, _<_}
 use mathlib.Core.Path.{_≡_}
-use mathlib.Core.Bool.{Bool}
 use mathlib.Core.List.{List}
 use lib.ListN.{length}
 use lib.Ieee.{Float}
 use denote.Ref.{RefT}
-use Rattle.meaning.specs.Axis.{onAxis}
-use Rattle.meaning.specs.Answers.{tableAnswer, pathAnswer, evaluation, evaluated, turning, turnedOutput}
+use Rattle.meaning.specs.Answers.{tableAnswer, axisPlace, pathAnswer, evaluation, evaluated, turning, turnedOutput}
 use Rattle.meaning.specs.View.{begins, viewed, partOf}
 use Rattle.meaning.specs.declared.Answer.{Answer}
 use Rattle.meaning.specs.declared.Part.{Part}
@@ -18,9 +16,9 @@ use Rattle.meaning.specs.declared.Part.{Part}
 abbrev pub ChecksTable : List ℕ → Answer → Type 0
 ChecksTable t r = r ≡ tableAnswer t
 
--- `axes::on_axis`: is y on the axis with this number of x?
-abbrev pub AnswersAxis : List ℕ → ℕ → ℕ → ℕ → Bool → Type 0
-AnswersAxis t axis x y r = r ≡ onAxis t axis x y
+-- `place::axis_place`: the place of y on the axis with this number of x is r
+abbrev pub AnswersPlace : List ℕ → ℕ → ℕ → ℕ → ℕ → Type 0
+AnswersPlace t axis x y r = r ≡ axisPlace t axis x y
 
 -- `path_check::check_path`: its answer is r
 abbrev pub ChecksPath : List ℕ → List Float → Answer → Type 0

@@ -7,6 +7,7 @@ use lib.ListN.{length, getD}
 use lib.Dec.{leb, ltb, eqb}
 use lib.Ieee.{Float, binary64, nan, isNan, toBits}
 use Rattle.meaning.specs.Lists.{upTo, some}
+use Rattle.meaning.specs.Axis.{lastAxis}
 
 -- the most rows of a path, and the most literals
 abbrev pub mostPathRows : ℕ
@@ -205,7 +206,7 @@ goodTest n = leb n 4 || (leb 17 n && leb n 65551)
 unfoldable pub goodField : List ℕ → ℕ → ℕ → Field → ℕ → Bool
 goodField p literals r unused v = eqb v 0
 goodField p literals r index v = ltb v literals
-goodField p literals r axis v = leb v 10
+goodField p literals r axis v = leb v lastAxis
 goodField p literals r test v = goodTest v
 goodField p literals r number-link v = goodLink p r number-link v
 goodField p literals r truth-link v = goodLink p r truth-link v

@@ -1,8 +1,11 @@
-// What a reader must believe: the types and the row limit that document 01 names, and under specs/ the document as definitions.
+// What a reader must believe: the types and the limits that document 01 names, and under specs/ the document as definitions.
 // The laws of the definitions stand under proofs/. Nothing here runs.
 
 // The most rows of a table: document 01's limit, which `mostRows` names in the definitions.
 pub const MOST_ROWS: usize = 4096;
+
+// The number of the last axis, which `lastAxis` names in the definitions.
+pub const LAST_AXIS: usize = 10;
 
 // The value of an expression is either a truth or a number.
 pub enum Value {

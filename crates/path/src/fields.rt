@@ -5,6 +5,7 @@ use basics::below;
 use basics::both;
 use basics::either;
 use basics::same;
+use meaning::LAST_AXIS;
 ghost use mathlib.Core.Path.{_≡_};
 ghost use Prim.Native.Nat.{_<_, _≤_};
 ghost use Rattle.meaning.specs.Rows.{opOf, fieldsOf, isNumber, isTruth, isPath, isStep, isPredicate, isUnknown, takes, goodTest, goodLink, goodField, goodFields};
@@ -198,7 +199,7 @@ fn is_good_field(path: &[u32], literals: usize, row: usize, kind: usize, v: usiz
     match kind {
         UNUSED => same(v, 0),
         INDEX => below(v, literals),
-        AXIS => at_most(v, 10),
+        AXIS => at_most(v, LAST_AXIS),
         TEST => is_good_test(v),
         _ => is_good_link(path, row, kind, v),
     }

@@ -22,6 +22,7 @@ use Rattle.meaning.proofs.Lists.{some-same}
 use Rattle.meaning.proofs.Windows.{some-below, some-and, some-keep}
 use Rattle.meaning.proofs.Marks.{listed, listed-by}
 use Rattle.meaning.proofs.Evaluation.{stepTo}
+use Rattle.meaning.proofs.Places.{placed-on}
 use Rattle.meaning.proofs.Free.{true-at, ok, fits, free-step}
 use Rattle.meaning.proofs.Backward.{before, backs, before-by, ok-none, ok-row, pair-row, not-row, exists-row, relative-row, absolute-row}
 use Rattle.meaning.proofs.Near.{covers-all, near-agree, near-backs, near-none, near-row}
@@ -56,7 +57,7 @@ module _ (t : List ℕ) (literals : List Float) where
           sifted-narrowed d (tree p b) reached mid exit s n y l
           ∙ rw (h y l)
           (sym (some-and (λ x. getD entry x false && on t (axisOf c) x y) good (upTo (rows t)))
-          ∙ some-same (λ x. (getD entry x false && on t (axisOf c) x y) && good) (λ x. getD entry x false && has (stepTo t literals p b c d x) y) (upTo (rows t)) (λ x. rw (free-step t literals (axisOf c) (testOf d) (tree p b) x y free l) (and-assoc (getD entry x false) (on t (axisOf c) x y) good))
+          ∙ some-same (λ x. (getD entry x false && on t (axisOf c) x y) && good) (λ x. getD entry x false && has (stepTo t literals p b c d x) y) (upTo (rows t)) (λ x. rw (free-step t literals (axisOf c) (testOf d) (tree p b) x y free, placed-on t (axisOf c) x y l) (and-assoc (getD entry x false) (on t (axisOf c) x y) good))
           ∙ sym (some-keep (λ x. has (stepTo t literals p b c d x) y) (λ x. getD entry x false) (upTo (rows t))))
 
   -- a set is narrowed as states: all are active, the marked ones stay so, the predicates thin them, and what is active stays marked

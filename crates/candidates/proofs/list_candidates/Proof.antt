@@ -2,15 +2,15 @@
 -- i rows of the axis's order. The measure is what is left of the rows.
 -- Assumes nothing.
 use Prim.Native.Nat.{_-_, _≤_}
-use mathlib.Core.Path.{_≡_, refl, ap, _∙_}
+use mathlib.Core.Path.{_≡_, refl, sym, ap, _∙_}
 use native.Mathlib.Omega.{arith}
 use borrow.Author.Needs.{needs}
 use lib.ListN.{length, length-set}
 use mathlib.Core.Bool.{_&&_}
 use mathlib.Core.Logic.{⊎-elim}
 use Rattle.meaning.specs.Table.{rows}
-use Rattle.meaning.specs.Axis.{on, passes, axisOf, testOf, ordered, candidates}
-use Rattle.meaning.proofs.Lists.{length-ordered}
+use Rattle.meaning.specs.Axis.{on, passes, axisOf, testOf, ordered, axisNodes, candidates}
+use Rattle.meaning.proofs.Lists.{length-ordered, keep-keep}
 use Rattle.meaning.proofs.Filters.{Chosen, chosen-start, chosen-skip, chosen-more, chosen-done}
 use Rattle.candidates.proofs.list_candidates.Statement.{statement}
 use Rattle.candidates.proofs.list_candidates.Tie as tie
@@ -89,13 +89,13 @@ same-length : tie.Need-same-length Inv-loop μ-loop
 same-length c = search needs
 
 returns : tie.Need-returns Inv-loop μ-loop
-unfolding candidates
+unfolding candidates axisNodes
 returns c =
     let lo = c .before in
     let n = lo .before .before .row-count .result in
     let r = lo .before .is-reverse .result in
     let long : length (ordered r n) ≡ n = length-ordered r n in
-    (rw (← lo .before .is-reverse .ensures, ← lo .before .before .row-count .ensures) (chosen-done _ _ _ _ _ (lo .loop .inv .4) (omega arith)), omega arith)
+    (rw (← lo .before .is-reverse .ensures, ← lo .before .before .row-count .ensures) (chosen-done _ _ _ _ _ (lo .loop .inv .4) (omega arith) ∙ sym (keep-keep _ _ (ordered r n))), omega arith)
 
 pub list-candidates-spec : {M : Type 1} → statement M
 list-candidates-spec =

@@ -1,10 +1,10 @@
--- `candidates::nth` meets its contract: what stands at i in the ascending and in the descending order of n rows.
+-- `axes::nth` meets its contract: what stands at i in the ascending and in the descending order of n rows.
 -- Assumes nothing.
 use Rattle.meaning.specs.Axis.{ordered}
 use Rattle.meaning.proofs.Lists.{upTo-at, downFrom-at}
 use borrow.Author.Needs.{needs}
-use Rattle.candidates.proofs.nth.Statement.{statement}
-use Rattle.candidates.proofs.nth.Tie as tie
+use Rattle.axes.proofs.nth.Statement.{statement}
+use Rattle.axes.proofs.nth.Tie as tie
 
 sub-result : tie.Need-sub-result
 sub-result c = search needs
