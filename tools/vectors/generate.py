@@ -8,6 +8,7 @@ import engines
 import examples
 import meaning
 import paths
+import places
 import selection
 import tables
 import text
@@ -172,6 +173,16 @@ def turning_cases(rng, build, sheet, log, count):
                 write_case(rng, sheet, best, "turning")
 
 
+# ---- places, held against the engines ----
+
+def place_cases(rng, build, sheet, log):
+    cases = places.sound_cases(rng)
+    ask_cases(build, cases)
+    for case in sort_out(cases, log):
+        sheet.place("engines", case["table"], case["axis"], case["start"], case["node"], case["place"])
+    places.add_refused(rng, sheet)
+
+
 # ---- the document's own examples ----
 
 def example_cases(rng, build, sheet):
@@ -214,6 +225,7 @@ def main(build, folder):
         write_case(rng, sheet, case, "engines")
     turning_cases(Rng(SEED + 3), build, sheet, log, 160)
     damage.add_damage(Rng(SEED + 4), sheet)
+    place_cases(Rng(SEED + 5), build, sheet, log)
     write_lines(folder + "/stdin", sheet.commands)
     write_lines(folder + "/stdout", sheet.answers)
     write_lines(build + "/disagreements.txt", log)

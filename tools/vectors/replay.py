@@ -7,6 +7,7 @@
 import sys
 
 import meaning
+import places
 import sheet
 import slips
 
@@ -46,6 +47,10 @@ class Player:
 
     def turn(self, room):
         return sheet.answer(*self.check.turn(self.state["path"], self.state["literals"], room))
+
+    def place(self, axis, x, y):
+        tree = meaning.Tree if self.evaluator is None else lambda table: self.evaluator(table, [], []).tree
+        return "%d" % places.place(self.check.check_table, self.state["table"], axis, x, y, tree)
 
     def view(self, node, count, *entries):
         assert count == len(entries)

@@ -20,6 +20,8 @@ class Sheet:
         key = (sort, command.split()[0], answer.split()[0])
         if key[1] == "view" and key[2] != "empty":
             key = (sort, "view", "part")
+        if key[1] == "place" and key[2] != "0":
+            key = (sort, "place", "there")
         self.counts[key] = self.counts.get(key, 0) + 1
 
     def check_table(self, sort, table, result):
@@ -41,6 +43,10 @@ class Sheet:
         self.set("literals", literals)
         self.set("path", path)
         self.add(sort, "turn %d" % room, answer(number, place, written))
+
+    def place(self, sort, table, axis, x, y, place):
+        self.set("table", table)
+        self.add(sort, "place %d %d %d" % (axis, x, y), "%d" % place)
 
     def view(self, sort, table, node, entries, part):
         self.set("table", table)

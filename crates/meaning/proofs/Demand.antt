@@ -14,6 +14,7 @@ use native.Mathlib.Omega.{arith}
 use borrow.Author.Tests.{lt-ltb}
 use Rattle.meaning.specs.Lists.{upTo, some, has}
 use Rattle.meaning.specs.Table.{rows}
+use Rattle.meaning.specs.Axis.{lastAxis}
 use Rattle.meaning.specs.Rows.{Op, opOf, opAt, code, fieldsOf, isLiteral, isStep, isPath, isLink, isUnknown, mayMiss, takes, goodTest, goodField, firstLink, secondLink, rowsOf, mostPathRows}
 use Rattle.meaning.specs.Rows as R
 use Rattle.meaning.specs.Tree.{Tree, none, node, indexOrAxis, testAt, tree, depth}
@@ -90,10 +91,10 @@ unfolding inverseOf
 inverse-past c l = List·getD-eq-default inverses 0 l
 
 -- an inverse axis is an axis
-axis-back : (c : ℕ) → T (leb (inverseOf c) 10)
+axis-back : (c : ℕ) → T (leb (inverseOf c) lastAxis)
 unfolding inverseOf some upTo
 axis-back c = elim (lt-or-ge c 11) [
-  | inl l ↦ not-false (leb (inverseOf c) 10) (below-none (λ c. not (leb (inverseOf c) 10)) 11 refl c l)
+  | inl l ↦ not-false (leb (inverseOf c) lastAxis) (below-none (λ c. not (leb (inverseOf c) lastAxis)) 11 refl c l)
   | inr l ↦ rw (inverse-past c l) tt
 ]
 
@@ -132,16 +133,16 @@ module _ (literals : ℕ) where
       record { chain = x; kept = y; tested = z }
 
   -- one more step of a turned path
-  made-step : (a done : Tree) (c : ℕ) → Made literals a → T (goodChild R.step-or-none a) → T (leb c 10) → Made literals done → T (goodChild R.step-or-none done)
+  made-step : (a done : Tree) (c : ℕ) → Made literals a → T (goodChild R.step-or-none a) → T (leb c lastAxis) → Made literals done → T (goodChild R.step-or-none done)
       → Made literals (node R.step done (predicates a) c (test a))
   unfolding goodNode goodHeld fieldsOf isLink isLiteral isUnknown code goodField predicates test goodChild mayMiss goodTest
   made-step none done c h k l md gd =
-      (refl, and-i (goodChild R.step-or-none done && true && leb c 10) true (and-i (goodChild R.step-or-none done && true) (leb c 10) (and-i (goodChild R.step-or-none done) true gd tt) l) tt, md, tt)
+      (refl, and-i (goodChild R.step-or-none done && true && leb c lastAxis) true (and-i (goodChild R.step-or-none done && true) (leb c lastAxis) (and-i (goodChild R.step-or-none done) true gd tt) l) tt, md, tt)
   made-step (node op a b c₀ d) done c h k l md gd =
       let s : GoodStep a b d = good-step op a b c₀ d k h in
       let P : Bool = goodChild R.predicate-or-none b in (
         refl,
-        and-i (goodChild R.step-or-none done && P && leb c 10) (goodTest d) (and-i (goodChild R.step-or-none done && P) (leb c 10) (and-i (goodChild R.step-or-none done) P gd (s .kept)) l) (s .tested),
+        and-i (goodChild R.step-or-none done && P && leb c lastAxis) (goodTest d) (and-i (goodChild R.step-or-none done && P) (leb c lastAxis) (and-i (goodChild R.step-or-none done) P gd (s .kept)) l) (s .tested),
         md,
         h .3,
       )

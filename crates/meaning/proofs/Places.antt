@@ -19,7 +19,7 @@ use Rattle.meaning.specs.Tree.{Tree, none, node}
 use Rattle.meaning.specs.Meaning.{float, holds, value, filtered}
 use Rattle.meaning.specs.Answers.{askable, axisPlace}
 use Rattle.meaning.proofs.Bools.{and-l, and-r, is-true, truly}
-use Rattle.meaning.proofs.Lists.{Monotone, has-keep, has-order-to, has-order-from, keep-all, keep-monotone, length-ordered, order-back, order-monotone, place-some, place-kept, place-entry, keepAt-places}
+use Rattle.meaning.proofs.Lists.{Monotone, has-keep, has-order-from, keep-all, keep-monotone, length-ordered, order-back, order-monotone, place-some, place-kept, place-entry, keepAt-places}
 use Rattle.meaning.proofs.Tables.{few-rows}
 use Rattle.meaning.proofs.Filters.{Tallied}
 
@@ -45,14 +45,6 @@ module _ (t : List ℕ) (a : Axis) (x : ℕ) where
       placed-has y
       ∙ has-keep (on t a x) (ordered (isReverse a) (rows t)) y
       ∙ rw (is-true (has (ordered (isReverse a) (rows t)) y) (has-order-from (isReverse a) (rows t) y h))
-
-  -- what is no row has none
-  pub placed-row : (y : ℕ) → T (placed t a x y) → y < rows t
-  unfolding axisNodes
-  placed-row y h =
-      has-order-to (isReverse a) (rows t) y
-      (and-l (has (ordered (isReverse a) (rows t)) y) (on t a x y)
-      (rw (placed-has y, has-keep (on t a x) (ordered (isReverse a) (rows t)) y) at h))
 
   -- the axis node at i, counted from 0, has the place i, counted from 1
   pub place-of-node : (i : ℕ) → i < length (axisNodes t a x) → place t a x (getD (axisNodes t a x) i 0) ≡ 1 + i

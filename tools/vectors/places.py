@@ -1,0 +1,61 @@
+# Places on axes. Of a sound table: both engines select with [k] the node whose
+# place is k, and a node without a place is in neither's answer for the axis.
+# Of anything else the place is 0.
+import checker
+import damage
+import examples
+import meaning
+import paths
+import selection
+import tables
+
+LAST_AXIS = 10
+TABLES = 40
+
+
+def place(check, table, axis, x, y, make_tree=meaning.Tree):
+    number, rows = check(table)
+    if number != 0 or axis > LAST_AXIS or x >= rows or y >= rows:
+        return 0
+    nodes = list(make_tree(table).axis(x, axis))
+    return nodes.index(y) + 1 if y in nodes else 0
+
+
+def choose(rng, table):
+    """For each axis a node on it, where there is one, and any node: the pairs (x, axis, y)."""
+    tree = meaning.Tree(table)
+    for axis in range(LAST_AXIS + 1):
+        x = rng.below(tree.count)
+        nodes = list(tree.axis(x, axis))
+        if nodes:
+            yield x, axis, rng.pick(nodes)
+        yield x, axis, rng.below(tree.count)
+
+
+def question(rng, table, x, axis, y):
+    """The engines' case that bears out y's place, and the place."""
+    k = place(checker.check_table, table, axis, x, y)
+    step = (axis, 0, examples.number(float(k))) if k else (axis, 0)
+    path, literals = paths.write_path(rng, examples.relative(step), False)
+    nodes, _ = selection.guess(table, path, literals, x, 100000)
+    assert (nodes == [y]) if k else (y not in nodes)
+    return dict(name="place", table=table, loose=False, path=path, literals=literals,
+                start=x, guess=nodes, axis=axis, node=y, place=k)
+
+
+def sound_cases(rng):
+    made = [selection.REFERENCE]
+    while len(made) < TABLES:
+        made.append(tables.make_table(rng, rng.pick(selection.SHAPES), rng.between(2, 40), [1, 2, 3], 25))
+    return [question(rng, table, *pair) for table in made for pair in choose(rng, table)]
+
+
+def add_refused(rng, sheet):
+    """No sound table, no axis, no row."""
+    for _ in range(60):
+        table = damage.damaged_table(rng) if rng.chance(50) else damage.small_table(rng)
+        rows = len(table) // 4
+        for _ in range(4):
+            numbers = [rng.pick([0, 1, rows - 1 if rows else 0, rows, rows + 1, damage.TOP]) for _ in range(2)]
+            axis = rng.pick([rng.below(LAST_AXIS + 1), rng.below(LAST_AXIS + 1), LAST_AXIS + 1, damage.TOP])
+            sheet.place("place", table, axis, *numbers, place(checker.check_table, table, axis, *numbers))
