@@ -86,12 +86,17 @@ static void fill(struct result *result, uint64_t seed)
 
 typedef uint32_t place_function(const uint32_t *table, size_t table_len, uint32_t axis, uint32_t x, uint32_t y);
 
-/* the places on every axis of the start node, and on one axis too many: of the node and, in a small table, of each row and of the number
- * behind the last; gives back on how many axes some place was found */
+/* beside the node, the numbers whose places are asked: in a small table each row and the number behind the last */
+static uint32_t rows_asked(const struct input *in)
+{
+    uint32_t rows = (uint32_t)(in->table_len / 4);
+    return rows <= FEW_ROWS ? rows + 1 : 0;
+}
+
+/* the places on every axis of the start node, and on one axis too many; gives back on how many axes some place was found */
 static uint32_t ask_places(place_function *ask, const struct input *in, const uint32_t *table, uint32_t *out)
 {
-    uint32_t rows = (uint32_t)(in->table_len / 4), axes = 0;
-    uint32_t asked = rows <= FEW_ROWS ? rows + 1 : 0;
+    uint32_t asked = rows_asked(in), axes = 0;
     for (uint32_t axis = 0; axis <= AXES; axis++) {
         uint32_t found = *out++ = ask(table, in->table_len, axis, in->start, in->node);
         for (uint32_t y = 0; y < asked; y++)
@@ -240,6 +245,8 @@ static long words_needed(enum function f, const struct input *in)
     static struct result probe;
     if (f == TURN)
         return 5 * ((long)(in->path_len / 5) + 1);
+    if (f == PLACE)
+        return (AXES + 1) * (1 + (long)rows_asked(in));
     if (f != EVALUATE)
         return 0;
     ask_reference(f, in, OUT_ROOM, &probe);

@@ -4,7 +4,7 @@
 -- Assumes nothing.
 use Prim.Native.Nat.{ℕ, _+_, _-_, _<_}
 use mathlib.Core.Path.{_≡_, refl, sym, _∙_}
-use mathlib.Core.Bool.{Bool, true, false, _&&_, cond, and-assoc, and-true, or-true}
+use mathlib.Core.Bool.{Bool, true, false, _&&_, cond, and-assoc, and-true}
 use mathlib.Core.List.{List}
 use lib.ListN.{length, getD}
 use lib.Dec.{ltb, eqb}
@@ -19,7 +19,7 @@ use Rattle.meaning.specs.Tree.{Tree, tree, indexOrAxis, testAt}
 use Rattle.meaning.specs.Meaning.{select, union}
 use Rattle.meaning.specs.Turning.{counting, counts, inverseOf}
 use Rattle.meaning.proofs.Lists.{some-same}
-use Rattle.meaning.proofs.Windows.{some-below, some-and, some-keep}
+use Rattle.meaning.proofs.Windows.{some-and, some-keep}
 use Rattle.meaning.proofs.Marks.{listed, listed-by}
 use Rattle.meaning.proofs.Evaluation.{stepTo}
 use Rattle.meaning.proofs.Places.{placed-on}

@@ -33,7 +33,9 @@ both-requires-2 c κs = search needs
 
 returns-2 : tie.Need-returns-2
 unfolding askable
-returns-2 c = rw (table-accepted _ (rw (c .before .before .before .before .before .before .before .before .check-table .ensures) at (c .before .before .before .before .before .before .if1 .left)), ← c .before .before .before .before .before .row-count .ensures, ← c .before .before .before .before .at-most .ensures, ← c .before .before .before .below .ensures, ← c .before .before .both .ensures, ← c .before .below2 .ensures) (c .both2 .ensures)
+returns-2 c =
+    let accepted = table-accepted _ (rw (c .before .before .before .before .before .before .before .before .check-table .ensures) at (c .before .before .before .before .before .before .if1 .left)) in
+    rw (c .both2 .ensures, c .before .below2 .ensures, c .before .before .both .ensures, c .before .before .before .below .ensures, c .before .before .before .before .at-most .ensures, c .before .before .before .before .before .row-count .ensures, accepted)
 
 pub is-askable-spec : {M : Type 1} → statement M
 is-askable-spec =

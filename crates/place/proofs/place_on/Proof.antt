@@ -8,7 +8,6 @@ use native.Mathlib.Omega.{arith}
 use borrow.Author.Needs.{needs}
 use borrow.Author.Tests.{not-true, not-false}
 use lib.ListN.{length}
-use Rattle.meaning.specs.Table.{rows}
 use Rattle.meaning.specs.Axis.{on, axisOf, ordered}
 use Rattle.meaning.proofs.Lists.{length-ordered}
 use Rattle.meaning.proofs.Filters.{Tallied, tallied-start, tallied-skip, tallied-more}
@@ -76,8 +75,8 @@ returns-2 : tie.Need-returns-2 Inv-loop μ-loop
 returns-2 c =
     let lo = c .before in
     let own = lo .before .nth .ensures in
-    let there = sym (lo .before .before .before .before .before .holds .ensures) ∙ not-false _ (lo .before .before .before .before .if1 .left) in
-    (place-counted _ _ _ _ _ _ _ _ _ (lo .before .before .before .row-count .ensures) (lo .before .before .is-reverse .ensures) (search needs) there (own .0) (own .1) (omega arith) (lo .loop .inv .2), omega arith)
+    let there = not-false (lo .before .before .before .before .before .holds .result) (lo .before .before .before .before .if1 .left) in
+    (place-counted _ _ _ _ _ _ _ _ _ (lo .before .before .before .row-count .ensures) (lo .before .before .is-reverse .ensures) (search needs) (rw (lo .before .before .before .before .before .holds .ensures) at there) (own .0) (own .1) (omega arith) (lo .loop .inv .2), omega arith)
 
 pub place-on-spec : {M : Type 1} → statement M
 place-on-spec =
