@@ -1,6 +1,5 @@
 // Reads of a node table's rows, each equal to its definition (document 01, "The node table"). A row that is read is there, so no read
-// compares. The checker stands in check.rt.
-
+// compares.
 use basics::wide;
 ghost use mathlib.Core.Path.{_≡_};
 ghost use Prim.Native.Nat.{_<_};
