@@ -29,7 +29,8 @@ static const char *const names[FUNCTIONS] = {
     "bt_check_table", "bt_axis_place", "bt_check_path", "bt_evaluate", "bt_turn", "bt_view"
 };
 
-/* how often each function gave each number; for the view: 0 empty, 1 a part; for the place: on how many axes there was one */
+/* how often each function gave each number; for the view: 0 empty, 1 a part; for the places: on how many
+ * axes there was one */
 static uint64_t seen[FUNCTIONS][12];
 static uint64_t left_out;
 

@@ -3,8 +3,9 @@
  * Six functions over plain numbers: two checkers, the place of a node on an
  * axis of another, an evaluator, a path turner and a view of an answer inside
  * one subtree. What a table, a path and an answer are is said below as far as
- * a caller needs it; documents 01 and 02 of the project are the definition. Link with libcapi.a (made by `rt staticlib capi`)
- * on x86-64 Linux, and with -lm.
+ * a caller needs it; documents 01 and 02 of the project are the definition.
+ * Link with libcapi.a (made by `rt staticlib capi`) on x86-64 Linux, and with
+ * -lm.
  *
  * A node table is 4 numbers a row, 1 to 4,096 rows, in document order:
  *   kind    0 root (row 0 only), 1 element, 2 text, 3 comment,

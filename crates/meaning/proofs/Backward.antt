@@ -20,7 +20,7 @@ use Rattle.meaning.specs.Tree.{Tree, none, node, tree, indexOrAxis, test
 use Rattle.meaning.specs.Meaning.{applied, isAbsolute, startOf, union, value, select, walk}
 use Rattle.meaning.specs.Turning.{counting, counts, inverseOf}
 use Rattle.meaning.proofs.Bools.{or-none-l, or-none-r}
-use Rattle.meaning.proofs.Lists.{some-same, some-members, has-keep-to, has-upTo-to}
+use Rattle.meaning.proofs.Lists.{some-same, some-members, kept-below}
 use Rattle.meaning.proofs.Decoding.{op-is}
 use Rattle.meaning.proofs.Trees.{tree-zero, tree-row}
 use Rattle.meaning.proofs.Windows.{some-below, some-or, some-and, some-keep, some-one}
@@ -62,7 +62,7 @@ module _ (t : List ℕ) (literals : List Float) where
   walk-rows : (s : Tree) (set : List ℕ) → ((x : ℕ) → T (has set x) → x < rows t) → (x : ℕ) → T (has (walk t literals s set) x) → x < rows t
   unfolding walk union
   walk-rows none set within x h = within x h
-  walk-rows (node op a b c d) set within x h = has-upTo-to (rows t) x (has-keep-to _ (upTo (rows t)) x h .1)
+  walk-rows (node op a b c d) set within x h = kept-below _ (rows t) x h
 
   -- a chain whose steps do not count leads from a set of rows to some good node exactly if some node of the set is led back to
   pub walk-back : (s : Tree) → counts s ≡ false → (good : ℕ → Bool) (set : List ℕ) → ((x : ℕ) → T (has set x) → x < rows t) → some good (walk t literals s set) ≡ some (backs s good) set
@@ -90,7 +90,7 @@ module _ (t : List ℕ) (literals : List Float) where
       let start : List ℕ = keep (eqb y) (upTo (rows t)) in
       rw relative
       (sym (some-all (walk t literals s start))
-      ∙ walk-back s h (λ z. true) start (λ x m. has-upTo-to (rows t) x (has-keep-to (eqb y) (upTo (rows t)) x m .1))
+      ∙ walk-back s h (λ z. true) start (kept-below (eqb y) (rows t))
       ∙ some-one (backs s (λ z. true)) (rows t) y l)
 
   -- one step back from the good nodes that fit

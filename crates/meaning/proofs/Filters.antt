@@ -11,7 +11,7 @@ use native.Mathlib.Omega.{arith}
 use native.Mathlib.Numerals.{add-one}
 use Rattle.meaning.specs.Lists.{keep}
 use Rattle.meaning.specs.Meaning.{keepAt}
-use Rattle.meaning.proofs.Lists.{keep-append}
+use Rattle.meaning.proofs.Lists.{keep-more, keep-skip}
 
 -- ---- a list that is filled from another
 
@@ -26,11 +26,11 @@ module _ (p : ℕ → Bool) (from : List ℕ) where
 
   pub chosen-skip : (list : List ℕ) (m i : ℕ) → Chosen p from list m i → i < length from → p (getD from i 0) ≡ false → Chosen p from list m (i + 1)
   unfolding Chosen keep
-  chosen-skip list m i h a e = rw (add-one i, take-suc from i 0 a, keep-append p (take i from) (getD from i 0 ∷ []), e, append-nil (keep p (take i from))) h
+  chosen-skip list m i h a e = rw (add-one i, take-suc from i 0 a, keep-skip p (take i from) (getD from i 0) e) h
 
   pub chosen-more : (list : List ℕ) (m i v : ℕ) → Chosen p from list m i → i < length from → m < length list → v ≡ getD from i 0 → p (getD from i 0) ≡ true → Chosen p from (set list m v) (m + 1) (i + 1)
   unfolding Chosen keep
-  chosen-more list m i v h a b f e = rw (add-one i, add-one m, take-suc from i 0 a, keep-append p (take i from) (getD from i 0 ∷ []), e, take-suc-set list m v b, h, f)
+  chosen-more list m i v h a b f e = rw (add-one i, add-one m, take-suc from i 0 a, keep-more p (take i from) (getD from i 0) e, take-suc-set list m v b, h, f)
 
   pub chosen-done : (list : List ℕ) (m i : ℕ) → Chosen p from list m i → length from ≤ i → take m list ≡ keep p from
   unfolding Chosen
@@ -47,11 +47,11 @@ module _ (p : ℕ → Bool) (from : List ℕ) where
 
   pub tallied-skip : (m i : ℕ) → Tallied p from m i → i < length from → p (getD from i 0) ≡ false → Tallied p from m (i + 1)
   unfolding Tallied keep
-  tallied-skip m i h a e = rw (add-one i, take-suc from i 0 a, keep-append p (take i from) (getD from i 0 ∷ []), e, append-nil (keep p (take i from))) h
+  tallied-skip m i h a e = rw (add-one i, take-suc from i 0 a, keep-skip p (take i from) (getD from i 0) e) h
 
   pub tallied-more : (m i : ℕ) → Tallied p from m i → i < length from → p (getD from i 0) ≡ true → Tallied p from (m + 1) (i + 1)
   unfolding Tallied keep
-  tallied-more m i h a e = rw (add-one i, take-suc from i 0 a, keep-append p (take i from) (getD from i 0 ∷ []), e, length-append (keep p (take i from)) (getD from i 0 ∷ []), h)
+  tallied-more m i h a e = rw (add-one i, take-suc from i 0 a, keep-more p (take i from) (getD from i 0) e, length-append (keep p (take i from)) (getD from i 0 ∷ []), h)
 
 -- ---- a list that is filtered in place, by position
 

@@ -4,7 +4,7 @@ use Prim.Native.Nat.{ℕ, zero, suc, _+_, _-_, _<_, _≤_}
 use mathlib.Core.Path.{_≡_, refl, sym, subst, ap, _∙_}
 use mathlib.Core.Logic.{inl, inr, ⊎-elim}
 use mathlib.Core.Bool.{Bool, true, false, _&&_, _||_, cond, or-assoc, or-false, or-comm}
-use mathlib.Core.List.{List, [], _∷_, _++_}
+use mathlib.Core.List.{List, [], _∷_, _++_, append-nil}
 use lib.Dec.{T, ltb, eqb, eqb→eq, eqb-refl}
 use lib.ListN.{length, getD, take, length-append, length-take, List·getD-append}
 use lib.Seq.{getD-at}
@@ -170,6 +170,19 @@ unfolding keep
 keep-append p [] ys = refl
 keep-append p (x ∷ xs) ys = cond-append (p x) x _ _ _ (keep-append p xs ys)
 
+-- one member more is kept where it passes
+pub keep-more : (p : ℕ → Bool) (l : List ℕ) (x : ℕ) → p x ≡ true → keep p (l ++ (x ∷ [])) ≡ keep p l ++ (x ∷ [])
+unfolding keep
+keep-more p l x e = keep-append p l (x ∷ []) ∙ rw e
+
+pub keep-skip : (p : ℕ → Bool) (l : List ℕ) (x : ℕ) → p x ≡ false → keep p (l ++ (x ∷ [])) ≡ keep p l
+unfolding keep
+keep-skip p l x e = keep-append p l (x ∷ []) ∙ rw e (append-nil (keep p l))
+
+-- what is kept of the numbers below n is below n
+pub kept-below : (p : ℕ → Bool) (n y : ℕ) → T (has (keep p (upTo n)) y) → y < n
+kept-below p n y h = has-upTo-to n y (has-keep-to p (upTo n) y h .1)
+
 -- tests that agree on the entries keep the same ones
 pub keep-entries : (p q : ℕ → Bool) (l : List ℕ) → ((i : ℕ) → i < length l → p (getD l i 0) ≡ q (getD l i 0)) → keep p l ≡ keep q l
 unfolding keep
@@ -232,6 +245,10 @@ Monotone reverse l = (i j : ℕ) → i < j → j < length l → Before reverse (
 abbrev pub Rising : List ℕ → Type 0
 Rising = Monotone false
 
+monotone-behind : (r : Bool) (x : ℕ) (xs : List ℕ) → Monotone r (x ∷ xs) → Monotone r xs
+unfolding Monotone
+monotone-behind r x xs m i j h k = m (suc i) (suc j) (omega arith) (omega arith)
+
 pub order-monotone : (r : Bool) (n : ℕ) → Monotone r (ordered r n)
 unfolding Monotone Before ordered
 order-monotone true n i j h k = let l : j < n = rw length-downFrom at k in omega (arith, downFrom-at n i (omega arith), downFrom-at n j l)
@@ -257,7 +274,7 @@ kept-within p (x ∷ xs) i h = by (p x) (kept-within p xs) i h
 pub keep-monotone : (r : Bool) (p : ℕ → Bool) (l : List ℕ) → Monotone r l → Monotone r (keep p l)
 unfolding keep Monotone
 keep-monotone r p [] m = m
-keep-monotone r p (x ∷ xs) m = by (p x) (keep-monotone r p xs (λ i j h k. m (suc i) (suc j) (omega arith) (omega arith)))
+keep-monotone r p (x ∷ xs) m = by (p x) (keep-monotone r p xs (monotone-behind r x xs m))
   where
     by : (b : Bool) → Monotone r (keep p xs) → Monotone r (cond b (x ∷ keep p xs) (keep p xs))
     by false k i j h l = k i j h l
@@ -284,10 +301,6 @@ behind-other false x y h = ne-eqb y x (λ e. omega arith)
 behind-other true x y h = ne-eqb y x (λ e. omega arith)
 
 module _ (r : Bool) where
-  monotone-behind : (x : ℕ) (xs : List ℕ) → Monotone r (x ∷ xs) → Monotone r xs
-  unfolding Monotone
-  monotone-behind x xs m i j h k = m (suc i) (suc j) (omega arith) (omega arith)
-
   not-first : (x : ℕ) (xs : List ℕ) → Monotone r (x ∷ xs) → (i : ℕ) → i < length xs → eqb (getD xs i 0) x ≡ false
   unfolding Monotone
   not-first x xs m i h = behind-other r x (getD xs i 0) (m 0 (suc i) (omega arith) (omega arith))
@@ -297,7 +310,7 @@ module _ (r : Bool) where
   unfolding placeFrom keep
   place-kept p [] m k i h e = absurd (omega arith)
   place-kept p (x ∷ xs) m k zero h e = rw (e, eq-eqb x x refl) (omega arith)
-  place-kept p (x ∷ xs) m k (suc i) h e = by (p x) (λ k. place-kept p xs (monotone-behind x xs m) k i (omega arith) e)
+  place-kept p (x ∷ xs) m k (suc i) h e = by (p x) (λ k. place-kept p xs (monotone-behind r x xs m) k i (omega arith) e)
     where
       y : ℕ
       y = getD xs i 0
@@ -318,7 +331,7 @@ module _ (r : Bool) where
   keepAt-places f (x ∷ xs) m k =
       let e : keep (λ y. f y (cond (eqb y x) k (placeFrom (k + 1) xs y))) xs ≡ keep (λ y. f y (placeFrom (k + 1) xs y)) xs =
       keep-entries _ _ xs (λ i h. rw (not-first x xs m i h)) in
-      rw (eq-eqb x x refl, e, keepAt-places f xs (monotone-behind x xs m) (k + 1))
+      rw (eq-eqb x x refl, e, keepAt-places f xs (monotone-behind r x xs m) (k + 1))
 
 -- ---- the lowest number
 

@@ -5,7 +5,7 @@ use Prim.Native.Nat.{ℕ, zero, suc, _+_, _<_, _≤_}
 use mathlib.Core.Path.{_≡_, refl, sym, ap, _∙_}
 use mathlib.Core.Logic.{inl, inr, ⊎-elim}
 use mathlib.Core.Bool.{Bool, true, false, _&&_, _||_, and-true, and-false, or-false, or-true, cond}
-use mathlib.Core.List.{List, [], _∷_, _++_, append-nil, append-assoc}
+use mathlib.Core.List.{List, [], _∷_, _++_, append-assoc}
 use lib.ListN.{length, getD, replicate, take, drop, set, length-append}
 use lib.Seq.{take-suc, drop-cons, set-at, getD-set-other, getD-set-same}
 use lib.Dec.{eqb, ltb}
@@ -17,7 +17,7 @@ use Rattle.meaning.specs.Lists.{keep, some, has, upTo}
 use Rattle.meaning.specs.Table.{rows}
 use Rattle.meaning.specs.Meaning.{union}
 use Rattle.meaning.proofs.Bools.{lt-or-ge, eq-or-ne}
-use Rattle.meaning.proofs.Lists.{some-append, keep-append, keep-upTo}
+use Rattle.meaning.proofs.Lists.{some-append, keep-append, keep-more, keep-skip, keep-upTo}
 
 -- the rows that are marked, ascending
 unfoldable pub listed : List ℕ → List Bool → List ℕ
@@ -69,11 +69,11 @@ module _ (marks : List Bool) where
 
   marked-more : (i : ℕ) → getD marks i false ≡ true → marked (i + 1) ≡ marked i ++ (i ∷ [])
   unfolding upTo keep
-  marked-more i h = rw (add-one i, keep-append (λ z. getD marks z false) (upTo i) (i ∷ []), h)
+  marked-more i h = rw (add-one i) (keep-more (λ z. getD marks z false) (upTo i) i h)
 
   marked-skip : (i : ℕ) → getD marks i false ≡ false → marked (i + 1) ≡ marked i
   unfolding upTo keep
-  marked-skip i h = rw (add-one i, keep-append (λ z. getD marks z false) (upTo i) (i ∷ []), h) (append-nil (marked i))
+  marked-skip i h = rw (add-one i) (keep-skip (λ z. getD marks z false) (upTo i) i h)
 
   fewer-below : (i n : ℕ) → i ≤ n → length (marked i) ≤ length (marked n)
   unfolding upTo

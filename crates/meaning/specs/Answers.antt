@@ -1,4 +1,5 @@
--- Numbers given back (document 01): the answer of each public function and what its output slice holds, from its inputs.
+-- Numbers given back (document 01), and a node's place on an axis (document 02, W-203): the answer of each public function and what its
+-- output slice holds, from its inputs.
 -- Checks run in the order of the numbers; the first that applies is given, and no other.
 -- Assumes nothing: these are definitions.
 use Prim.Native.Nat.{ℕ, _+_, _*_}

@@ -1,4 +1,4 @@
--- The eleven axes, the tests, an axis's nodes with their places and its candidates (document 01, "The path form" and "Meaning";
+-- The eleven axes, an axis's nodes and their places, the tests and an axis's candidates (document 01, "The path form" and "Meaning";
 -- document 02, W-203).
 -- Assumes nothing: these are definitions.
 use Prim.Native.Nat.{ℕ, _-_}
@@ -22,6 +22,7 @@ axes =
 abbrev pub lastAxis : ℕ
 lastAxis = 10
 
+-- the axis with a number; no axis has a number above the last, and no accepted path names one
 unfoldable pub axisOf : ℕ → Axis
 axisOf n = getD axes n self
 
