@@ -38,6 +38,7 @@ static const struct query { const char *text, *label; } queries[] = {
     {"//*[count(child::*) > 2]", NULL},
     {"//*[position() mod 2 = 0]", NULL},
     {"//A/ancestor::*[3]", NULL},
+    {"//A/descendant::*[2]", NULL},
     {"//*[*[*[*]]]", NULL},
     {"//*[*[*[*[*]]]]", NULL},
     {"//*[*[*[*[*[*]]]]]", NULL},

@@ -1,18 +1,35 @@
-// The candidates of a step from one node: the rows of an axis that pass a test, in the order of the axis.
+// The candidates of a step from one node: the rows of an axis that pass a test, in the order of the axis. An axis whose nodes can be told
+// from the table without a scan has a small function of its own, which promises that axis's candidates; the others look at every row.
 use axes::holds;
 use axes::is_reverse;
 use axes::nth;
 use axes::passes_test;
 use basics::both;
+use table::end_at;
 use table::row_count;
 ghost use mathlib.Core.Path.{_≡_};
-ghost use Prim.Native.Nat.{_<_, _≤_};
+ghost use Prim.Native.Nat.{_+_, _<_, _≤_, min};
 ghost use lib.ListN.{length, take};
-ghost use Rattle.meaning.specs.Table.{rows, mostRows};
-ghost use Rattle.meaning.specs.Axis.{axisOf, testOf, candidates};
+ghost use lib.Seq.{slice};
+ghost use Rattle.meaning.specs.Lists.{upTo, keep};
+ghost use Rattle.meaning.specs.Table.{rows, mostRows, end};
+ghost use Rattle.meaning.specs.Axis.{axisOf, testOf, passes, candidates};
+ghost use Rattle.meaning.specs.Axis.Axis.{descendant, descendant-or-self};
 
 // Writes the candidates to the front of the list.
 pub fn list_candidates(table: &[u32], axis: usize, test: usize, x: usize, list: &mut [u32]) -> usize
+    requires { ⌜ (rows (now table) ≤ mostRows) × (x < 4294967296) × (rows (now table) ≤ length (now list)) ⌝ }
+    ensures { λ r. ⌜ (take r (now (list .exit)) ≡ candidates (now (table .entry)) (axisOf axis) (testOf test) x) × (r ≤ rows (now (table .entry))) ⌝ }
+{
+    match axis {
+        3 => list_descendants(table, test, x, list),
+        5 => list_subtree(table, test, x, list),
+        _ => list_by_scan(table, axis, test, x, list),
+    }
+}
+
+// Those of any axis: each row is asked, in the order of the axis.
+fn list_by_scan(table: &[u32], axis: usize, test: usize, x: usize, list: &mut [u32]) -> usize
     requires { ⌜ (rows (now table) ≤ mostRows) × (x < 4294967296) × (rows (now table) ≤ length (now list)) ⌝ }
     ensures { λ r. ⌜ (take r (now (list .exit)) ≡ candidates (now (table .entry)) (axisOf axis) (testOf test) x) × (r ≤ rows (now (table .entry))) ⌝ }
 {
@@ -27,6 +44,54 @@ pub fn list_candidates(table: &[u32], axis: usize, test: usize, x: usize, list: 
             m += 1;
         }
         i += 1;
+    }
+    m
+}
+
+// Those of the descendant axis: the rows after x in its subtree.
+fn list_descendants(table: &[u32], test: usize, x: usize, list: &mut [u32]) -> usize
+    requires { ⌜ (rows (now table) ≤ mostRows) × (x < 4294967296) × (rows (now table) ≤ length (now list)) ⌝ }
+    ensures { λ r. ⌜ (take r (now (list .exit)) ≡ candidates (now (table .entry)) descendant (testOf test) x) × (r ≤ rows (now (table .entry))) ⌝ }
+{
+    let past = past_subtree(table, x);
+    list_range(table, test, x + 1, past, list)
+}
+
+// Those of the descendant-or-self axis: the same, and x before them.
+fn list_subtree(table: &[u32], test: usize, x: usize, list: &mut [u32]) -> usize
+    requires { ⌜ (rows (now table) ≤ mostRows) × (x < 4294967296) × (rows (now table) ≤ length (now list)) ⌝ }
+    ensures { λ r. ⌜ (take r (now (list .exit)) ≡ candidates (now (table .entry)) descendant-or-self (testOf test) x) × (r ≤ rows (now (table .entry))) ⌝ }
+{
+    let past = past_subtree(table, x);
+    list_range(table, test, x, past, list)
+}
+
+// One past the last row of x's subtree, or the number of rows where that is less or x is no row.
+fn past_subtree(table: &[u32], x: usize) -> usize
+    requires { ⌜ x < 4294967296 ⌝ }
+    ensures { λ r. ⌜ r ≡ min (rows (now (table .entry))) (end (now (table .entry)) x + 1) ⌝ }
+{
+    let n = row_count(table);
+    if n <= x {
+        return n;
+    }
+    let past = end_at(table, x) + 1;
+    if past < n { past } else { n }
+}
+
+// Writes the rows from one to before another that pass the test to the front of the list.
+fn list_range(table: &[u32], test: usize, from: usize, to: usize, list: &mut [u32]) -> usize
+    requires { ⌜ (rows (now table) ≤ mostRows) × (to ≤ rows (now table)) × (rows (now table) ≤ length (now list)) ⌝ }
+    ensures { λ r. ⌜ (take r (now (list .exit)) ≡ keep (passes (now (table .entry)) (testOf test)) (slice from to (upTo (rows (now (table .entry)))))) × (r ≤ rows (now (table .entry))) ⌝ }
+{
+    let mut m = 0;
+    let mut y = from;
+    while y < to {
+        if passes_test(table, test, y) {
+            list[m] = y as u32;
+            m += 1;
+        }
+        y += 1;
     }
     m
 }

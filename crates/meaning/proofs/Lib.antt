@@ -2,6 +2,7 @@ pub mod Bools
 pub mod Lists
 pub mod Tables
 pub mod Places
+pub mod Ranges
 pub mod Axes
 pub mod Decoding
 pub mod Trees

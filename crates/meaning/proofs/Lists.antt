@@ -6,8 +6,8 @@ use mathlib.Core.Logic.{inl, inr, ⊎-elim}
 use mathlib.Core.Bool.{Bool, true, false, _&&_, _||_, cond, or-assoc, or-false, or-comm}
 use mathlib.Core.List.{List, [], _∷_, _++_, append-nil}
 use lib.Dec.{T, ltb, eqb, eqb→eq, eqb-refl}
-use lib.ListN.{length, getD, take, length-append, length-take, List·getD-append}
-use lib.Seq.{getD-at}
+use lib.ListN.{length, getD, take, drop, length-append, length-take, length-drop, take-append-drop, List·getD-append}
+use lib.Seq.{getD-at, getD-take, getD-drop, slice}
 use native.Mathlib.Omega.{arith}
 use native.Mathlib.Nat.{eq-or-lt-of-le}
 use native.Mathlib.Numerals.{add-one}
@@ -205,6 +205,17 @@ keep-each p (x ∷ xs) h = rw (h 0 (omega arith), keep-each p xs (λ i k. h (suc
 
 pub keep-all : (l : List ℕ) → keep (λ y. true) l ≡ l
 keep-all l = keep-each (λ y. true) l (λ i h. refl)
+
+-- a test that fails at each entry before index f and from index t on keeps what it keeps of those between
+pub keep-slice : (p : ℕ → Bool) (l : List ℕ) (f t : ℕ) → ((i : ℕ) → i < length l → i < f → p (getD l i 0) ≡ false) → ((i : ℕ) → i < length l → t ≤ i → p (getD l i 0) ≡ false) → keep p l ≡ keep p (slice f t l)
+unfolding keep
+keep-slice p l f t before behind =
+    let front : keep p (take f (take t l)) ≡ [] =
+    keep-none p (take f (take t l)) (λ i h. let k = rw (length-take f, length-take t) at h in rw (getD-take f (take t l) i 0 (omega arith), getD-take t l i 0 (omega arith)) (before i (omega arith) (omega arith))) in
+    let rest : keep p (drop t l) ≡ [] = keep-none p (drop t l) (λ i h. let k = rw (length-drop t) at h in rw (getD-drop t l i 0) (behind (t + i) (omega arith) (omega arith))) in
+    ap (keep p) (sym (take-append-drop t l))
+    ∙ keep-append p (take t l) (drop t l)
+    ∙ rw (rest, append-nil (keep p (take t l))) (ap (keep p) (sym (take-append-drop f (take t l))) ∙ keep-append p (take f (take t l)) (slice f t l) ∙ rw front)
 
 pub keep-keep : (p q : ℕ → Bool) (l : List ℕ) → keep q (keep p l) ≡ keep (λ y. p y && q y) l
 unfolding keep

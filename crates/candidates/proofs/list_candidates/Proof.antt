@@ -1,121 +1,49 @@
--- `candidates::list_candidates` meets its contract. The loop's invariant: the first m of the list are the candidates among the first
--- i rows of the axis's order. The measure is what is left of the rows.
+-- `candidates::list_candidates` meets its contract: each number's function lists the candidates of that axis.
 -- Assumes nothing.
-use Prim.Native.Nat.{_-_, _≤_}
-use mathlib.Core.Path.{_≡_, refl, sym, ap, _∙_}
-use native.Mathlib.Omega.{arith}
 use borrow.Author.Needs.{needs}
-use lib.ListN.{length, length-set}
-use mathlib.Core.Bool.{_&&_}
-use mathlib.Core.Logic.{⊎-elim}
-use Rattle.meaning.specs.Table.{rows}
-use Rattle.meaning.specs.Axis.{on, passes, axisOf, testOf, ordered, axisNodes, candidates}
-use Rattle.meaning.proofs.Lists.{length-ordered, keep-keep}
-use Rattle.meaning.proofs.Filters.{Chosen, chosen-start, chosen-skip, chosen-more, chosen-done}
+use Rattle.meaning.specs.Axis.{axisOf}
 use Rattle.candidates.proofs.list_candidates.Statement.{statement}
 use Rattle.candidates.proofs.list_candidates.Tie as tie
 
-abbrev Inv-loop : tie.InvT-loop
-Inv-loop table axis test x list₀ n reverse m₀ i₀ list m i =
-    (i ≤ n) × (m ≤ i) × (n ≡ rows table) × (length list ≡ length list₀) × Chosen (λ y. on table (axisOf axis) x y && passes table (testOf test) y) (ordered reverse n) list m i
+list-descendants-requires : tie.Need-list-descendants-requires
+list-descendants-requires c κs = search needs
 
-abbrev μ-loop : tie.MeasureT-loop
-μ-loop table axis test x list₀ n reverse m₀ i₀ list m i = n - i
+list-subtree-requires : tie.Need-list-subtree-requires
+list-subtree-requires c κs = search needs
 
-row-count-requires : tie.Need-row-count-requires Inv-loop μ-loop
-row-count-requires c κs = search needs
+list-by-scan-requires : tie.Need-list-by-scan-requires
+list-by-scan-requires c κs = search needs
 
-is-reverse-requires : tie.Need-is-reverse-requires Inv-loop μ-loop
-is-reverse-requires c κs = search needs
-
-loop-holds : tie.Need-loop-holds Inv-loop μ-loop
-loop-holds c = (omega arith, omega arith, c .before .row-count .ensures, refl, chosen-start _ _ _)
-
-nth-requires : tie.Need-nth-requires Inv-loop μ-loop
-nth-requires c κs = search needs
-
-holds-requires : tie.Need-holds-requires Inv-loop μ-loop
-holds-requires c κs = search needs
-
-passes-test-requires : tie.Need-passes-test-requires Inv-loop μ-loop
-passes-test-requires c κs = search needs
-
-both-requires : tie.Need-both-requires Inv-loop μ-loop
-both-requires c κs = search needs
-
-cast-list : tie.Need-cast-list Inv-loop μ-loop
-cast-list c = search needs
-
-mul-list : tie.Need-mul-list Inv-loop μ-loop
-mul-list c = search needs
-
-slice-write-list : tie.Need-slice-write-list Inv-loop μ-loop
-slice-write-list c = search needs
-
-add-m : tie.Need-add-m Inv-loop μ-loop
-add-m c = search needs
-
-add-i : tie.Need-add-i Inv-loop μ-loop
-add-i c = search needs
-
-loop-less : tie.Need-loop-less Inv-loop μ-loop
-loop-less c = search needs
-
-loop-again : tie.Need-loop-again Inv-loop μ-loop
-loop-again c =
-    let lo = c .before .before .before .before .before .before in
-    let n = lo .before .before .row-count .result in
-    let r = lo .before .is-reverse .result in
-    let long : length (ordered r n) ≡ n = length-ordered r n in
-    let at-y = c .before .before .before .before .nth .ensures .0 in
-    ⊎-elim
-    (λ w. (
-      omega arith,
-      omega arith,
-      lo .loop .inv .2,
-      ap length (w .1) ∙ simp length-set (lo .loop .inv .3),
-      rw (w .1, w .2) (chosen-more _ _ _ _ _ _ (lo .loop .inv .4) (omega arith) (omega arith) at-y (rw (← at-y, ← c .before .before .before .holds .ensures, ← c .before .before .passes-test .ensures, ← c .before .both .ensures) (w .0 .taken))),
-    ))
-    (λ w. (
-      omega arith,
-      omega arith,
-      lo .loop .inv .2,
-      ap length (w .1) ∙ lo .loop .inv .3,
-      rw (w .1, w .2) (chosen-skip _ _ _ _ _ (lo .loop .inv .4) (omega arith) (rw (← at-y, ← c .before .before .before .holds .ensures, ← c .before .before .passes-test .ensures, ← c .before .both .ensures) (w .0 .left))),
-    ))
-    (c .if1 .came)
-
-same-length : tie.Need-same-length Inv-loop μ-loop
+same-length : tie.Need-same-length
 same-length c = search needs
 
-returns : tie.Need-returns Inv-loop μ-loop
-unfolding candidates axisNodes
-returns c =
-    let lo = c .before in
-    let n = lo .before .before .row-count .result in
-    let r = lo .before .is-reverse .result in
-    let long : length (ordered r n) ≡ n = length-ordered r n in
-    (rw (← lo .before .is-reverse .ensures, ← lo .before .before .row-count .ensures) (chosen-done _ _ _ _ _ (lo .loop .inv .4) (omega arith) ∙ sym (keep-keep _ _ (ordered r n))), omega arith)
+returns : tie.Need-returns
+unfolding axisOf
+returns c = rw (c .before .before .before .before .match .keys1) (c .before .before .list-descendants .ensures)
+
+same-length-2 : tie.Need-same-length-2
+same-length-2 c = search needs
+
+returns-2 : tie.Need-returns-2
+unfolding axisOf
+returns-2 c = rw (c .before .before .before .before .match .keys2) (c .before .before .list-subtree .ensures)
+
+same-length-3 : tie.Need-same-length-3
+same-length-3 c = search needs
+
+returns-3 : tie.Need-returns-3
+returns-3 c = search needs
 
 pub list-candidates-spec : {M : Type 1} → statement M
 list-candidates-spec =
     tie.close
     (tie.spec
-    Inv-loop
-    μ-loop
-    row-count-requires
-    is-reverse-requires
-    loop-holds
-    nth-requires
-    holds-requires
-    passes-test-requires
-    both-requires
-    cast-list
-    mul-list
-    slice-write-list
-    add-m
-    add-i
-    loop-less
-    loop-again
+    list-descendants-requires
+    list-subtree-requires
+    list-by-scan-requires
     same-length
-    returns)
+    returns
+    same-length-2
+    returns-2
+    same-length-3
+    returns-3)

@@ -1,0 +1,27 @@
+-- `candidates::list_subtree` meets its contract: the descendants with x itself are the rows of the range.
+-- Assumes nothing.
+use borrow.Author.Needs.{needs}
+use Rattle.meaning.specs.Axis.{candidates}
+use Rattle.meaning.proofs.Ranges.{subtree-range}
+use Rattle.candidates.proofs.list_subtree.Statement.{statement}
+use Rattle.candidates.proofs.list_subtree.Tie as tie
+
+past-subtree-requires : tie.Need-past-subtree-requires
+past-subtree-requires c κs = search needs
+
+list-range-requires : tie.Need-list-range-requires
+list-range-requires c κs = search needs
+
+same-length : tie.Need-same-length
+same-length c = search needs
+
+returns : tie.Need-returns
+unfolding candidates
+returns c =
+    let done = c .before .before .list-range .ensures in
+    let past = c .before .before .before .before .past-subtree .ensures in
+    (rw (subtree-range _ _ _ past) (done .0), done .1)
+
+pub list-subtree-spec : {M : Type 1} → statement M
+list-subtree-spec =
+    tie.close (tie.spec past-subtree-requires list-range-requires same-length returns)
