@@ -68,20 +68,21 @@ loop-again c =
     let r = lo .before .is-reverse .result in
     let long : length (ordered r n) ≡ n = length-ordered r n in
     let at-y = c .before .before .before .before .nth .ensures .0 in
+    let decided = rw (c .before .before .before .holds .ensures, c .before .before .passes-test .ensures, at-y) at (c .before .both .ensures) in
     ⊎-elim
     (λ w. (
       omega arith,
       omega arith,
       lo .loop .inv .2,
       ap length (w .1) ∙ simp length-set (lo .loop .inv .3),
-      rw (w .1, w .2) (chosen-more _ _ _ _ _ _ (lo .loop .inv .4) (omega arith) (omega arith) at-y (rw (← at-y, ← c .before .before .before .holds .ensures, ← c .before .before .passes-test .ensures, ← c .before .both .ensures) (w .0 .taken))),
+      rw (w .1, w .2) (chosen-more _ _ _ _ _ _ (lo .loop .inv .4) (omega arith) (omega arith) at-y (rw decided at (w .0 .taken))),
     ))
     (λ w. (
       omega arith,
       omega arith,
       lo .loop .inv .2,
       ap length (w .1) ∙ lo .loop .inv .3,
-      rw (w .1, w .2) (chosen-skip _ _ _ _ _ (lo .loop .inv .4) (omega arith) (rw (← at-y, ← c .before .before .before .holds .ensures, ← c .before .before .passes-test .ensures, ← c .before .both .ensures) (w .0 .left))),
+      rw (w .1, w .2) (chosen-skip _ _ _ _ _ (lo .loop .inv .4) (omega arith) (rw decided at (w .0 .left))),
     ))
     (c .if1 .came)
 

@@ -55,14 +55,14 @@ loop-again c =
       omega arith,
       omega arith,
       ap length (w .1) ∙ simp length-set (inv .3),
-      rw (w .1, w .2) (ranged-more _ _ _ _ _ _ _ (inv .4) (search needs) (inv .0) (search needs) (omega arith) (rw (← passed) (w .0 .taken))),
+      rw (w .1, w .2) (ranged-more _ _ _ _ _ _ _ (inv .4) (search needs) (inv .0) (search needs) (omega arith) (rw passed at (w .0 .taken))),
     ))
     (λ w. (
       omega arith,
       omega arith,
       omega arith,
       ap length (w .1) ∙ inv .3,
-      rw (w .1, w .2) (ranged-skip _ _ _ _ _ _ _ (inv .4) (search needs) (inv .0) (search needs) (rw (← passed) (w .0 .left))),
+      rw (w .1, w .2) (ranged-skip _ _ _ _ _ _ _ (inv .4) (search needs) (inv .0) (search needs) (rw passed at (w .0 .left))),
     ))
     (c .if1 .came)
 
