@@ -1,6 +1,6 @@
-# An independent checker, written from document 01 alone: the number and the
-# place of check_table, check_path, turn and the refusals of evaluate, the
-# turned rows, and the part the view hands back.
+# An independent checker, written from document 01 and document 02's W-206
+# alone: the number and the place of check_table, check_path, turn and the
+# refusals of evaluate, the turned rows, and the part the view hands back.
 #
 # Tables and paths are flat lists of whole numbers, literals are lists of
 # 64-bit patterns.
@@ -48,8 +48,13 @@ def table_row(table, i):
     return table[4 * i:4 * i + 4]
 
 
-def root_sound(row, rows):
-    return row == [0, 0, 0, rows - 1]
+def has_element(table):
+    """Whether some row is of kind 1, whatever else is wrong with it."""
+    return 1 in table[0::4]
+
+
+def root_sound(table, rows):
+    return table_row(table, 0) == [0, 0, 0, rows - 1] and has_element(table)
 
 
 def kind_sound(kind, name, size):
@@ -70,11 +75,40 @@ def parent_sound(table, i, parent, size):
     return False
 
 
+def previous_sibling(table, i):
+    """The nearest lower row with the same parent, or None; never row 0."""
+    for j in range(i - 1, 0, -1):
+        if table[4 * j + 2] == table[4 * i + 2]:
+            return j
+    return None
+
+
+def text_sound(table, i, parent):
+    """No child of the root, and not behind a text."""
+    before = previous_sibling(table, i)
+    return parent != 0 and (before is None or table[4 * before] != 2)
+
+
+def element_sound(table, i, parent):
+    """No child of the root behind another element child of it."""
+    if parent != 0:
+        return True
+    return not any(table[4 * j] == 1 and table[4 * j + 2] == 0 for j in range(1, i))
+
+
+def document_sound(table, i, kind, parent):
+    if kind == 1:
+        return element_sound(table, i, parent)
+    return kind != 2 or text_sound(table, i, parent)
+
+
 def row_sound(table, i, rows):
-    kind, name, parent, size = table_row(table, i)
     if i == 0:
-        return root_sound([kind, name, parent, size], rows)
-    return kind_sound(kind, name, size) and parent_sound(table, i, parent, size)
+        return root_sound(table, rows)
+    kind, name, parent, size = table_row(table, i)
+    if not kind_sound(kind, name, size) or not parent_sound(table, i, parent, size):
+        return False
+    return document_sound(table, i, kind, parent)
 
 
 def check_table(table):

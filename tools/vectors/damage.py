@@ -1,7 +1,6 @@
 # Damaged inputs and their refusals, turning cases and view cases. All numbers
 # and places here come from checker.py.
 import checker
-import meaning
 import paths
 import selection
 import tables
@@ -14,6 +13,8 @@ BAD_LITERALS = NAN_BITS + [0x8000000000000000, 0x7FF0000000000000, 0xFFF00000000
                            0xBFF0000000000000, 0x8000000000000001]
 GOOD_LITERALS = [0, 1, 0x000FFFFFFFFFFFFF, 0x0010000000000000, 0x7FEFFFFFFFFFFFFF,
                  0x3FF0000000000000, 0x3FB999999999999A, 0x4000000000000000]
+GOOD_PATH = [24, 0, 0, 1, 0, 22, 1, 0, 0, 0]
+BAD_PATH = [24, 0, 0, 11, 0, 22, 1, 0, 0, 0]
 
 
 # ---- damaged tables ----
@@ -114,11 +115,11 @@ def fixed_tables(rng):
         yield broken
 
 
-def ask_table(rng, sheet, table, good_path, bad_path):
+def ask_table(rng, sheet, table):
     sheet.check_table("damage", table, checker.check_table(table))
     if rng.chance(30):
-        path, literals = rng.pick([good_path, bad_path])
-        ask_evaluate(rng, sheet, table, path, literals, rng.pick([0, 1, TOP]))
+        path = rng.pick([GOOD_PATH, BAD_PATH])
+        ask_evaluate(rng, sheet, table, path, [], rng.pick([0, 1, TOP]))
     if rng.chance(10):
         entries = list(range(rng.below(3)))
         sheet.view("damage", table, 0, entries, checker.view(table, entries, 0))
@@ -133,16 +134,14 @@ def ask_evaluate(rng, sheet, table, path, literals, start):
 
 
 def table_cases(rng, sheet, count):
-    good = ([24, 0, 0, 1, 0, 22, 1, 0, 0, 0], [])
-    bad = ([24, 0, 0, 11, 0, 22, 1, 0, 0, 0], [])
     for table in fixed_tables(rng):
-        ask_table(rng, sheet, table, good, bad)
+        ask_table(rng, sheet, table)
     made = 0
     while made < count:
         table = damaged_table(rng)
         if checker.check_table(table)[0] == 0 and not rng.chance(15):
             continue
-        ask_table(rng, sheet, table, good, bad)
+        ask_table(rng, sheet, table)
         made += 1
 
 
@@ -470,7 +469,7 @@ def add_damage(rng, sheet):
     turn_refusals(rng, sheet, 160)
     turn_limits(sheet)
     counting_cases(rng, sheet)
-    view_cases(rng, sheet, [[0, 0, 0, 0], selection.REFERENCE] + [small_table(rng) for _ in range(8)], 16)
+    view_cases(rng, sheet, [selection.SMALLEST, selection.REFERENCE] + [small_table(rng) for _ in range(8)], 16)
     view_cases(rng, sheet, [tables.make_table(rng, "random", 300, [1, 2], 30)], 6)
     long_views(sheet, tables.make_table(rng, "balanced", 4096, [1], 20))
 

@@ -45,41 +45,6 @@ static void read_document(size_t bytes) {
     number_nodes();
 }
 
-static xmlNodePtr new_node(unsigned kind, unsigned name) {
-    char text[16];
-    snprintf(text, sizeof text, "%c%u", kind == 1 ? 'e' : 'p', name);
-    switch (kind) {
-    case 1: return xmlNewDocNode(document, NULL, BAD_CAST text, NULL);
-    case 2: return xmlNewDocText(document, BAD_CAST "t");
-    case 3: return xmlNewDocComment(document, BAD_CAST "c");
-    default: return xmlNewDocPI(document, BAD_CAST text, NULL);
-    }
-}
-
-/* Linked by hand: xmlAddChild would merge neighbouring texts. */
-static void link_last(xmlNodePtr parent, xmlNodePtr n) {
-    n->parent = parent;
-    n->prev = parent->last;
-    if (parent->last) parent->last->next = n;
-    else parent->children = n;
-    parent->last = n;
-}
-
-static void read_tree(size_t n) {
-    if (document) xmlFreeDoc(document);
-    document = xmlNewDoc(BAD_CAST "1.0");
-    xmlNodePtr *made = malloc(n * sizeof *made);
-    for (size_t i = 0; i < n; i++) {
-        unsigned kind, name, parent;
-        if (scanf("%u %u %u", &kind, &name, &parent) != 3) exit(1);
-        made[i] = i == 0 ? (xmlNodePtr)document : new_node(kind, name);
-        if (i > 0) link_last(made[parent], made[i]);
-    }
-    getchar();
-    free(made);
-    number_nodes();
-}
-
 static int ascending(const void *a, const void *b) {
     uintptr_t x = *(const uintptr_t *)a, y = *(const uintptr_t *)b;
     return (x > y) - (x < y);
@@ -130,7 +95,6 @@ int main(void) {
         if (strcmp(word, "number") != 0 && scanf("%zu", &n) != 1) return 1;
         getchar();
         if (strcmp(word, "doc") == 0) { read_document(n); continue; }
-        if (strcmp(word, "tree") == 0) { read_tree(n); continue; }
         ssize_t length = getline(&text, &room, stdin);
         if (length < 1) return 1;
         text[length - 1] = 0;

@@ -1,7 +1,6 @@
 // Answers XPath questions with pugixml. Nodes are numbered in document order,
 // the document node is 0. Read from standard input:
 //   doc <bytes>      then that many bytes of XML text and a newline
-//   tree <n>         then n lines "kind name parent" (row 0 is the document)
 //   eval <start> <xpath>
 //   number <xpath>
 // Each eval prints "<count> <nodes ascending>" or "error"; each number prints
@@ -48,30 +47,6 @@ static void read_document(size_t bytes) {
     number_nodes();
 }
 
-static pugi::xml_node add_node(pugi::xml_node parent, unsigned kind, unsigned name) {
-    static const pugi::xml_node_type types[] = {
-        pugi::node_document, pugi::node_element, pugi::node_pcdata,
-        pugi::node_comment, pugi::node_pi};
-    pugi::xml_node n = parent.append_child(types[kind]);
-    if (kind == 1) n.set_name(("e" + std::to_string(name)).c_str());
-    else if (kind == 4) n.set_name(("p" + std::to_string(name)).c_str());
-    else n.set_value("t");
-    return n;
-}
-
-static void read_tree(size_t n) {
-    document.reset(new pugi::xml_document);
-    std::vector<pugi::xml_node> made;
-    for (size_t i = 0; i < n; i++) {
-        unsigned kind, name, parent;
-        std::cin >> kind >> name >> parent;
-        if (i == 0) made.push_back(*document);
-        else made.push_back(add_node(made[parent], kind, name));
-    }
-    std::cin.ignore();
-    number_nodes();
-}
-
 static void answer_eval(size_t start, const std::string& text) {
     try {
         pugi::xpath_query query(text.c_str());
@@ -102,7 +77,6 @@ int main() {
         if (word != "number") std::cin >> n;
         std::cin.ignore();
         if (word == "doc") { read_document(n); continue; }
-        if (word == "tree") { read_tree(n); continue; }
         std::string text;
         std::getline(std::cin, text);
         if (word == "eval") answer_eval(n, text);

@@ -5,13 +5,9 @@ import subprocess
 import tables
 
 
-def document_question(table, loose):
-    rows = len(table) // 4
-    if not loose and rows > 1:
-        xml = tables.xml_text(table)
-        return "doc %d\n%s\n" % (len(xml), xml)
-    lines = ["%d %d %d" % tuple(table[4 * i:4 * i + 3]) for i in range(rows)]
-    return "tree %d\n%s\n" % (rows, "\n".join(lines))
+def document_question(table):
+    xml = tables.xml_text(table)
+    return "doc %d\n%s\n" % (len(xml), xml)
 
 
 def eval_question(start, text):

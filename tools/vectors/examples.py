@@ -82,7 +82,7 @@ def settled_list():
 def make_case(name, table, start, top, expected, rng):
     path, literals = paths.write_path(rng, top, False)
     nodes = meaning.Evaluator(table, path, literals).select(start)
-    return dict(name=name, table=table, loose=False, path=path, literals=literals,
+    return dict(name=name, table=table, path=path, literals=literals,
                 start=start, guess=nodes, expected=expected)
 
 

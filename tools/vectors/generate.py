@@ -12,6 +12,7 @@ import places
 import selection
 import tables
 import text
+import wellformed
 from rng import Rng
 from sheet import Sheet
 
@@ -26,7 +27,7 @@ def ask_cases(build, cases):
         if case["table"] != table:
             table = case["table"]
             assert checker.check_table(table)[0] == 0
-            questions.append(engines.document_question(table, case["loose"]))
+            questions.append(engines.document_question(table))
         case["text"] = text.path_text(case["path"], case["literals"])
         questions.append(engines.eval_question(case["start"], case["text"]))
     first, second = engines.ask_both(build, questions)
@@ -42,7 +43,7 @@ class WithoutFirst(meaning.Tree):
 
     def axis(self, i, axis):
         nodes = super().axis(i, axis)
-        if axis == 8 and self.count > 1 and self.size[1] > 0:
+        if axis == 8 and self.size[1] > 0:
             return [n for n in nodes if n != 1]
         return nodes
 
@@ -98,8 +99,8 @@ def all_starts(name, table, path, literals):
         nodes, _ = selection.guess(table, path, literals, start, 30000)
         if nodes is None:
             return None
-        cases.append(dict(name=name, table=table, loose=False, path=path,
-                          literals=literals, start=start, guess=nodes))
+        cases.append(dict(name=name, table=table, path=path, literals=literals,
+                          start=start, guess=nodes))
     return cases
 
 
@@ -181,6 +182,7 @@ def place_cases(rng, build, sheet, log):
     for case in sort_out(cases, log):
         sheet.place("engines", case["table"], case["axis"], case["start"], case["node"], case["place"])
     places.add_refused(rng, sheet)
+    places.add_misfits(rng, sheet)
 
 
 # ---- the document's own examples ----
@@ -217,7 +219,7 @@ def main(build, folder):
     sys.setrecursionlimit(10000)
     sheet, log = Sheet(), []
     example_cases(Rng(SEED), build, sheet)
-    chooser = selection.choose_cases(Rng(SEED + 1))
+    chooser = selection.choose_cases(Rng(SEED + 41))
     ask_cases(build, chooser.cases)
     kept = sort_out(chooser.cases, log)
     rng = Rng(SEED + 2)
@@ -226,6 +228,7 @@ def main(build, folder):
     turning_cases(Rng(SEED + 3), build, sheet, log, 160)
     damage.add_damage(Rng(SEED + 4), sheet)
     place_cases(Rng(SEED + 5), build, sheet, log)
+    wellformed.add_cases(Rng(SEED + 6), sheet)
     write_lines(folder + "/stdin", sheet.commands)
     write_lines(folder + "/stdout", sheet.answers)
     write_lines(build + "/disagreements.txt", log)

@@ -8,6 +8,7 @@ import meaning
 import paths
 import selection
 import tables
+import wellformed
 
 LAST_AXIS = 10
 TABLES = 40
@@ -39,7 +40,7 @@ def question(rng, table, x, axis, y):
     path, literals = paths.write_path(rng, examples.relative(step), False)
     nodes, _ = selection.guess(table, path, literals, x, 100000)
     assert (nodes == [y]) if k else (y not in nodes)
-    return dict(name="place", table=table, loose=False, path=path, literals=literals,
+    return dict(name="place", table=table, path=path, literals=literals,
                 start=x, guess=nodes, axis=axis, node=y, place=k)
 
 
@@ -48,6 +49,15 @@ def sound_cases(rng):
     while len(made) < TABLES:
         made.append(tables.make_table(rng, rng.pick(selection.SHAPES), rng.between(2, 40), [1, 2, 3], 25))
     return [question(rng, table, *pair) for table in made for pair in choose(rng, table)]
+
+
+def add_misfits(rng, sheet):
+    """Trees that are no document: a node has no place on an axis it lies on."""
+    for table in [[0, 0, 0, 0]] + [wellformed.refused_table(rng) for _ in range(20)]:
+        tree = meaning.Tree(table)
+        there = [(axis, x, y) for x, axis, y in choose(rng, table) if y in tree.axis(x, axis)]
+        for asked in there[::4]:
+            sheet.place("place", table, *asked, place(checker.check_table, table, *asked))
 
 
 def add_refused(rng, sheet):

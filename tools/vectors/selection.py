@@ -1,6 +1,6 @@
 # The evaluation cases: which paths are asked of which tables from which nodes.
-# A case is a dictionary with name, table, loose, path, literals, start, and
-# guess (the third opinion), which is only used to choose and to compare.
+# A case is a dictionary with name, table, path, literals, start, and guess (the
+# third opinion), which is only used to choose and to compare.
 import checker
 import meaning
 import paths
@@ -11,6 +11,7 @@ SHAPES = ["chain", "wide", "balanced", "random", "parameter"]
 
 REFERENCE = [0, 0, 0, 9, 1, 1, 0, 8, 1, 2, 1, 3, 1, 3, 2, 0, 1, 3, 2, 0, 1, 4, 2, 0,
              1, 2, 1, 3, 1, 3, 6, 0, 1, 4, 6, 0, 1, 4, 6, 0]
+SMALLEST = [0, 0, 0, 1, 1, 1, 0, 0]
 
 
 def guess(table, path, literals, start, limit):
@@ -29,17 +30,17 @@ class Chooser:
         self.cases = []
         self.scans = 0
 
-    def add(self, name, table, loose, path, literals, start, nodes):
-        self.cases.append(dict(name=name, table=table, loose=loose, path=path,
-                               literals=literals, start=start, guess=nodes))
+    def add(self, name, table, path, literals, start, nodes):
+        self.cases.append(dict(name=name, table=table, path=path, literals=literals,
+                               start=start, guess=nodes))
 
-    def add_top(self, name, table, top, start, loose=False, limit=200000):
+    def add_top(self, name, table, top, start, limit=200000):
         """One given path from one given node."""
         path, literals = paths.write_path(self.rng, top, self.rng.chance(50))
         nodes, scans = guess(table, path, literals, start, limit)
         if nodes is not None:
             self.scans += scans
-            self.add(name, table, loose, path, literals, start, nodes)
+            self.add(name, table, path, literals, start, nodes)
         return nodes
 
     def random_top(self, names):
@@ -55,7 +56,7 @@ class Chooser:
             return [self.rng.below(rows)]
         return [self.rng.below(rows) for _ in range(6)]
 
-    def random_path(self, name, table, names, loose, limit, wanted):
+    def random_path(self, name, table, names, limit, wanted):
         """Tries one random path; gives back how many cases it made."""
         top = self.random_top(names)
         path, literals = paths.write_path(self.rng, top, self.rng.chance(55))
@@ -68,16 +69,16 @@ class Chooser:
                 break
             if nodes or self.rng.chance(3):
                 self.scans += scans
-                self.add(name, table, loose, path, literals, start, nodes)
+                self.add(name, table, path, literals, start, nodes)
                 made += 1
         return made
 
-    def random_cases(self, name, table, names, count, loose=False, limit=40000, big=None):
+    def random_cases(self, name, table, names, count, limit=40000, big=None):
         """big: how many cases may select more than 300 nodes."""
         made = 0
         while made < count:
             before = len(self.cases)
-            made += self.random_path(name, table, names, loose, limit, self.rng.pick([1, 1, 2, 3]))
+            made += self.random_path(name, table, names, limit, self.rng.pick([1, 1, 2, 3]))
             if big is not None and len(self.cases) > before:
                 if any(len(c["guess"]) > 300 for c in self.cases[before:]):
                     if big == 0:
@@ -257,6 +258,26 @@ def arithmetic_cases(chooser, table, count):
         chooser.add_top("arithmetic", table, step_path(0, 0, predicates), rng.below(len(table) // 4))
 
 
+def fine_values():
+    """Zeros of both signs, and results below the normal numbers."""
+    number = lambda v: Row(1, v)
+    minus = lambda row: Row(9, row)
+    return [
+        number(0.0), minus(number(0.0)), minus(minus(number(0.0))), minus(Row(5, number(2.0), number(2.0))),
+        Row(6, minus(number(1.0)), number(0.0)), Row(8, minus(number(2.0)), number(2.0)),
+        Row(7, number(2.2250738585072014e-308), number(2.0)), Row(7, number(5e-324), number(2.0)),
+        Row(5, number(2.5e-310), number(5e-324)), minus(Row(6, number(1e-300), number(1e-10))),
+    ]
+
+
+def fine_cases(chooser, table):
+    """The sign of 1 div a fine value, and the value's truth."""
+    for i in range(len(fine_values())):
+        inverse = Row(7, Row(1, 1.0), fine_values()[i])
+        for value in (Row(14, inverse, Row(1, 0.0)), Row(12, inverse, Row(1, 0.0)), Row(19, fine_values()[i])):
+            chooser.add_top("arithmetic", table, step_path(0, 0, [value]), i)
+
+
 # ---- all of it ----
 
 def fixed_big_paths():
@@ -337,7 +358,7 @@ def choose_cases(rng):
     from_the_root(chooser, REFERENCE)
     for name, table, names in tiny_tables(rng):
         chooser.random_cases(name, table, names, 24)
-    chooser.random_cases("single", [0, 0, 0, 0], [1], 20)
+    chooser.random_cases("smallest", SMALLEST, [1], 20)
     for name, table, names in shaped_tables(rng, "small", 4, 12, 60):
         chooser.random_cases(name, table, names, 50)
         if name in ("small random", "small balanced") and rng.chance(50):
@@ -349,8 +370,9 @@ def choose_cases(rng):
     long_paths(chooser, REFERENCE)
     for i in range(8):
         names = name_pool(rng)
-        table = tables.loose_table(rng, rng.between(4, 45), names)
-        chooser.random_cases("loose", table, names, 30, loose=True)
+        table = tables.leafy_table(rng, rng.between(4, 45), names)
+        chooser.random_cases("leafy", table, names, 30)
     for name, table, names in shaped_tables(rng, "full", 1, 4096, 4096):
         full_cases(chooser, name, table, names)
+    fine_cases(chooser, REFERENCE)
     return chooser

@@ -303,6 +303,93 @@ def wrapped_parent(table, i, parent, size):
     return False
 
 
+# ---- W-206 ----
+
+def always(*inputs):
+    return True
+
+
+def is_root_element(table, i):
+    return table[4 * i] == 1 and table[4 * i + 2] == 0
+
+
+def behind_text(table, i):
+    before = checker.previous_sibling(table, i)
+    return before is not None and table[4 * before] == 2
+
+
+def root_text(behind):
+    """A text child of the root is allowed behind the element, or before it."""
+    def sound(table, i, parent):
+        found = any(is_root_element(table, j) for j in range(1, i))
+        if parent == 0 and found == behind:
+            return not behind_text(table, i)
+        return checker.text_sound(table, i, parent)
+    return sound
+
+
+def text_before_text(table, i, parent):
+    """The earlier of two neighbouring texts is the broken one."""
+    behind = [j for j in range(i + 1, len(table) // 4) if table[4 * j + 2] == parent]
+    return parent != 0 and (not behind or table[4 * behind[0]] != 2)
+
+
+def element_before_element(table, i, parent):
+    """Each element child of the root but the last is broken."""
+    later = range(i + 1, len(table) // 4)
+    return parent != 0 or not any(is_root_element(table, j) for j in later)
+
+
+def element_beside_element(table, i, parent):
+    """Only an element child straight behind another is broken."""
+    before = checker.previous_sibling(table, i)
+    return parent != 0 or before is None or table[4 * before] != 1
+
+
+def row_before(table, i):
+    return i - 1 if i > 1 else None
+
+
+def sibling_over(kinds):
+    """The previous sibling that is none of these kinds."""
+    def sibling(table, i):
+        before = checker.previous_sibling(table, i)
+        while before is not None and table[4 * before] in kinds:
+            before = checker.previous_sibling(table, before)
+        return before
+    return sibling
+
+
+def has_sound_element(table):
+    rows = len(table) // 4
+    return any(table[4 * i] == 1 and checker.row_sound(table, i, rows) for i in range(1, rows))
+
+
+def has_root_element(table):
+    return any(is_root_element(table, i) for i in range(1, len(table) // 4))
+
+
+def no_element_at_one():
+    """A table without an element is broken at row 1."""
+    others = checker_copy(has_element=always)
+
+    def check(table):
+        number, place = others.check_table(table)
+        missing = number in (0, 2) and place > 0 and not checker.has_element(table)
+        return (2, 1) if missing else (number, place)
+    return check
+
+
+def checked_first(**left_out):
+    """Some rules are looked at only where no row breaks another."""
+    others = checker_copy(**left_out)
+
+    def check(table):
+        number, place = others.check_table(table)
+        return (number, place) if number != 0 else checker.check_table(table)
+    return check
+
+
 def untested_turned(rows):
     """The leading self step tests nothing."""
     right = checker.turned_rows(rows)
@@ -386,6 +473,24 @@ EVALUATORS = {
 
 CHECKERS = {
     "sizes in 32 bits": dict(parent_sound=wrapped_parent),
+    "second element child allowed": dict(element_sound=always),
+    "only neighbouring elements refused": dict(element_sound=element_beside_element),
+    "earlier element child broken": dict(element_sound=element_before_element),
+    "text child of the root allowed": dict(text_sound=lambda table, i, parent: not behind_text(table, i)),
+    "text behind the element allowed": dict(text_sound=root_text(behind=True)),
+    "text before the element allowed": dict(text_sound=root_text(behind=False)),
+    "neighbouring texts allowed": dict(text_sound=lambda table, i, parent: parent != 0),
+    "earlier of two texts broken": dict(text_sound=text_before_text),
+    "row before taken for the sibling": dict(previous_sibling=row_before),
+    "comment between texts refused": dict(previous_sibling=sibling_over({3})),
+    "instruction between texts refused": dict(previous_sibling=sibling_over({4})),
+    "element between texts refused": dict(previous_sibling=sibling_over({1})),
+    "table without element allowed": dict(has_element=always),
+    "no element given at row 1": dict(check_table=no_element_at_one()),
+    "only sound elements looked for": dict(has_element=has_sound_element),
+    "only root's elements looked for": dict(has_element=has_root_element),
+    "no element looked at last": dict(check_table=checked_first(has_element=always)),
+    "W-206 after the older rules": dict(check_table=checked_first(has_element=always, document_sound=always)),
     "turned without testing tk": dict(turned_rows=untested_turned),
     "links of a wrong sort ignored": dict(links_of=links_of_sound),
     "65 literals looked at first": dict(bad_literal=all_literals),

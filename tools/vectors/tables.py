@@ -112,13 +112,14 @@ def parameter_tree(rng, n):
     return top
 
 
+def remark(rng, names):
+    kind = rng.pick([COMMENT, INSTRUCTION])
+    return [kind, rng.pick(names) if kind == INSTRUCTION else 0, []]
+
+
 def aside(rng, names):
     """Comments and processing instructions beside the document element."""
-    out = []
-    for _ in range(rng.pick([0, 0, 1, 1, 2])):
-        kind = rng.pick([COMMENT, INSTRUCTION])
-        out.append([kind, rng.pick(names) if kind == INSTRUCTION else 0, []])
-    return out
+    return [remark(rng, names) for _ in range(rng.pick([0, 0, 1, 1, 2]))]
 
 
 def separate_texts(tree):
@@ -130,6 +131,20 @@ def separate_texts(tree):
             if before[0] == TEXT and after[0] == TEXT:
                 after[0] = COMMENT
         stack.extend(children)
+
+
+def part_texts(rng, tree, names):
+    """No two texts side by side: a comment or an instruction comes between."""
+    stack = [tree]
+    while stack:
+        node = stack.pop()
+        parted = []
+        for child in node[2]:
+            if parted and parted[-1][0] == TEXT and child[0] == TEXT:
+                parted.append(remark(rng, names))
+            parted.append(child)
+        node[2] = parted
+        stack.extend(parted)
 
 
 def flatten(tree):
@@ -160,21 +175,27 @@ def shaped_tree(rng, shape, n, names, leaves):
     return parameter_tree(rng, n)
 
 
-def make_table(rng, shape, rows, names, leaves):
+def make_tree(rng, shape, rows, names, leaves):
+    """A document of this many nodes, the root counted."""
     before = aside(rng, names) if rows > 6 else []
     after = aside(rng, names) if rows > 6 else []
     n = rows - 1 - len(before) - len(after)
     top = shaped_tree(rng, shape, n, names, leaves)
     tree = [ROOT, 0, before + [top] + after]
     separate_texts(tree)
-    return flatten(tree)
+    return tree
 
 
-def loose_table(rng, n, names):
-    """Allowed by document 01 but no XML document: several elements and texts
-    beside one another under the root, neighbouring texts anywhere."""
-    tree = random_tree(rng, n, names, 50, rng.pick([2, 6, 1 << 30]))
-    return flatten([ROOT, 0, tree[2]])
+def make_table(rng, shape, rows, names, leaves):
+    return flatten(make_tree(rng, shape, rows, names, leaves))
+
+
+def leafy_table(rng, n, names):
+    """About as many leaves as elements; texts parted by comments and
+    instructions, so there are some more rows than n."""
+    top = random_tree(rng, n, names, 50, rng.pick([2, 6, 1 << 30]))
+    part_texts(rng, top, names)
+    return flatten([ROOT, 0, aside(rng, names) + [top] + aside(rng, names)])
 
 
 def kind_text(kind, name):

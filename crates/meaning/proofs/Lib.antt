@@ -4,6 +4,7 @@ pub mod Tables
 pub mod Places
 pub mod Ranges
 pub mod Axes
+pub mod DataModel
 pub mod Decoding
 pub mod Trees
 pub mod Applied

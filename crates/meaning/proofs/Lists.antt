@@ -15,7 +15,7 @@ use borrow.Author.Tests.{lt-ltb, le-ltb, eq-eqb, ne-eqb, ltb-true, ltb-false}
 use Rattle.meaning.specs.Lists.{keep, some, has, upTo, downFrom, placeFrom, lowest}
 use Rattle.meaning.specs.Axis.{ordered}
 use Rattle.meaning.specs.Meaning.{keepAt}
-use Rattle.meaning.proofs.Bools.{and-l, and-r, and-i, or-e, or-i-l, or-i-r, eq→eqb, is-false, untrue, same, lt-or-ge}
+use Rattle.meaning.proofs.Bools.{and-l, and-r, and-i, or-e, or-i-l, or-i-r, eq→eqb, truly, is-false, untrue, same, lt-or-ge, eq-or-ne}
 
 -- ---- members
 
@@ -304,6 +304,40 @@ place-some i (x ∷ xs) y h = by (eqb y x) (place-some (i + 1) xs y (omega arith
     by : (b : Bool) → ltb 0 (placeFrom (i + 1) xs y) ≡ has xs y → ltb 0 (cond b i (placeFrom (i + 1) xs y)) ≡ (b || has xs y)
     by true k = lt-ltb 0 i h
     by false k = k
+
+-- a place counted from i is at least i
+place-least : (i : ℕ) (l : List ℕ) (y : ℕ) → 0 < placeFrom i l y → i ≤ placeFrom i l y
+unfolding placeFrom
+place-least i [] y h = absurd (omega arith)
+place-least i (x ∷ xs) y h = by (eqb y x) (place-least (i + 1) xs y) h
+  where
+    by : (b : Bool) → (0 < placeFrom (i + 1) xs y → i + 1 ≤ placeFrom (i + 1) xs y) → 0 < cond b i (placeFrom (i + 1) xs y) → i ≤ cond b i (placeFrom (i + 1) xs y)
+    by true r h = omega arith
+    by false r h = omega (arith, r h)
+
+-- y passes, and no larger number below n does
+abbrev pub Largest : (ℕ → Bool) → ℕ → ℕ → Type 0
+Largest p n y = T (p y) × ((k : ℕ) → y < k → k < n → p k ≡ false)
+
+-- what has place 1 in what is kept of the numbers below n, from the last one down, is the largest that passes
+pub place-largest : (p : ℕ → Bool) (n y : ℕ) → placeFrom 1 (keep p (downFrom n)) y ≡ 1 → Largest p n y
+unfolding placeFrom keep downFrom
+place-largest p zero y e = absurd (omega arith)
+place-largest p (suc n) y e = by (p n) refl (place-largest p n y) e
+  where
+    by : (b : Bool) → p n ≡ b → (placeFrom 1 (keep p (downFrom n)) y ≡ 1 → Largest p n y) → placeFrom 1 (cond b (n ∷ keep p (downFrom n)) (keep p (downFrom n))) y ≡ 1 → Largest p (suc n) y
+    by true h below e = elim (eq-or-ne y n) [
+      | inl s ↦ (rw s (truly h), λ k a b. absurd (omega arith))
+      | inr d ↦ let f = rw (ne-eqb y n d) at e in absurd (omega (arith, f, place-least 2 (keep p (downFrom n)) y (omega arith)))
+    ]
+    by false h below e =
+        let r = below e in (
+          r .0,
+          λ k a b. elim (eq-or-ne k n) [
+            | inl s ↦ rw s h
+            | inr d ↦ r .1 k a (omega arith)
+          ],
+        )
 
 -- what stands behind another is not that one
 behind-other : (r : Bool) (x y : ℕ) → Before r x y → eqb y x ≡ false

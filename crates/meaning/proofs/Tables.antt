@@ -1,6 +1,6 @@
 -- The shape of an accepted table: what the parent rule says of a row, and that subtrees nest or are disjoint.
 -- Assumes nothing.
-use Prim.Native.Nat.{ℕ, zero, suc, _-_, _<_, _≤_}
+use Prim.Native.Nat.{ℕ, zero, suc, _<_, _≤_}
 use mathlib.Core.Path.{_≡_, sym, subst}
 use mathlib.Core.Logic.{_⊎_, inl, inr}
 use mathlib.Core.Bool.{true, false, _&&_, not, cond}
@@ -30,9 +30,13 @@ nearest-largest t i p h j l k = elim (lt-or-ge p j) [
 ]
 
 -- what a row that is not broken says
-pub good-child : (t : List ℕ) (i : ℕ) → T (goodRow t i) → Child t i
-unfolding goodRow goodParent nearest
-good-child t i g =
+pub good-parent : (t : List ℕ) (i : ℕ) → T (goodRow t i) → T (goodParent t i)
+unfolding goodRow
+good-parent t i g = search (and-l, and-r)
+
+pub parent-child : (t : List ℕ) (i : ℕ) → T (goodParent t i) → Child t i
+unfolding goodParent nearest
+parent-child t i p =
     let b : T (ltb (parentOf t i) i) = search (and-l, and-r) in
     let r : T (leb i (end t (parentOf t i))) = search (and-l, and-r) in
     let n : T (not (some (λ k. ltb (parentOf t i) k && leb i (end t k)) (upTo i))) = search (and-l, and-r) in
@@ -44,12 +48,31 @@ good-child t i g =
       largest = nearest-largest t i (parentOf t i) n;
     }
 
+pub good-child : (t : List ℕ) (i : ℕ) → T (goodRow t i) → Child t i
+good-child t i g = parent-child t i (good-parent t i g)
+
+-- no row below n is broken
+abbrev pub Sound : List ℕ → ℕ → Type 0
+Sound t n = (j : ℕ) → j < n → broken t j ≡ false
+
+module _ (t : List ℕ) (n : ℕ) (sound : Sound t n) where
+  -- so the rules hold of the root and of each other row below n
+  pub root-holds : 0 < n → T (goodRoot t)
+  unfolding broken
+  root-holds l = not-false (goodRoot t) (sound 0 l)
+
+  pub row-holds : (i : ℕ) → 0 < i → i < n → T (goodRow t i)
+  unfolding broken
+  row-holds i p l =
+      let w : not (cond (eqb i 0) (goodRoot t) (goodRow t i)) ≡ false = sound i l in
+      not-false (goodRow t i) (rw (ne-eqb i 0 (λ e. omega arith)) at w)
+
 module _ (t : List ℕ) (acc : accepted t ≡ true) where
   pub allowed : T (lengthAllowed t)
   unfolding accepted
   allowed = and-l (lengthAllowed t) (not (some (broken t) (upTo (rows t)))) (truly acc)
 
-  pub whole : (i : ℕ) → i < rows t → broken t i ≡ false
+  pub whole : Sound t (rows t)
   unfolding accepted
   whole = below-none (broken t) (rows t) (is-false (some (broken t) (upTo (rows t)))
       (not-e (some (broken t) (upTo (rows t))) (and-r (lengthAllowed t) (not (some (broken t) (upTo (rows t)))) (truly acc))))
@@ -70,17 +93,14 @@ module _ (t : List ℕ) (acc : accepted t ≡ true) where
 
   -- row 0's parent field is filler, and it is 0
   pub root-parent : parentOf t 0 ≡ 0
-  unfolding broken goodRoot
+  unfolding goodRoot
   root-parent =
-      let g : T (goodRoot t) = not-false (goodRoot t) (whole 0 some-row) in
+      let g : T (goodRoot t) = root-holds t (rows t) whole some-row in
       let f : T (eqb (parentOf t 0) 0) = search (and-l, and-r) in
       eqb→eq (parentOf t 0) 0 f
 
   pub child : (i : ℕ) → 0 < i → i < rows t → Child t i
-  unfolding broken
-  child i p h =
-      let w : not (cond (eqb i 0) (goodRoot t) (goodRow t i)) ≡ false = whole i h in
-      good-child t i (not-false (goodRow t i) (rw (ne-eqb i 0 (λ e. omega arith)) at w))
+  child i p h = good-child t i (row-holds t (rows t) whole i p h)
 
   -- no row's parent stands after it
   pub parent-first : (i : ℕ) → i < rows t → parentOf t i ≤ i

@@ -7,7 +7,7 @@ use mathlib.Core.List.{List, [], _∷_}
 use lib.ListN.{getD}
 use lib.Dec.{leb, ltb, eqb}
 use Rattle.meaning.specs.Lists.{upTo, downFrom, keep, placeFrom}
-use Rattle.meaning.specs.Table.{kind, name, parentOf, rows, end}
+use Rattle.meaning.specs.Table.{kind, name, parentOf, rows, end, isElement, isText, siblingBefore}
 
 pub data Axis : Type 0 where
   self child parent descendant ancestor descendant-or-self ancestor-or-self following preceding following-sibling preceding-sibling : Axis
@@ -42,8 +42,8 @@ on t descendant-or-self x y = eqb x y || inside t x y
 on t ancestor-or-self x y = eqb x y || inside t y x
 on t following x y = ltb x y && not (inside t x y)
 on t preceding x y = ltb y x && not (inside t y x)
-on t following-sibling x y = ltb 0 x && ltb x y && eqb (parentOf t x) (parentOf t y)
-on t preceding-sibling x y = ltb 0 y && ltb y x && eqb (parentOf t y) (parentOf t x)
+on t following-sibling x y = siblingBefore t y x
+on t preceding-sibling x y = siblingBefore t x y
 
 -- descending order for axes 2, 4, 6, 8, 10, ascending order for the others
 unfoldable pub isReverse : Axis → Bool
@@ -82,11 +82,11 @@ testOf n = cond (leb n 4) (getD (any-node ∷ any-element ∷ text ∷ comment �
 -- does node y pass the test?
 unfoldable pub passes : List ℕ → Test → ℕ → Bool
 passes t any-node y = true
-passes t any-element y = eqb (kind t y) 1
-passes t text y = eqb (kind t y) 2
+passes t any-element y = isElement t y
+passes t text y = isText t y
 passes t comment y = eqb (kind t y) 3
 passes t instruction y = eqb (kind t y) 4
-passes t (element k) y = eqb (kind t y) 1 && eqb (name t y) k
+passes t (element k) y = isElement t y && eqb (name t y) k
 
 -- the axis nodes of x that pass the test, in axis order
 unfoldable pub candidates : List ℕ → Axis → Test → ℕ → List ℕ

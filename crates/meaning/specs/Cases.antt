@@ -8,13 +8,13 @@ use lib.ListN.{length, drop, replicate}
 use lib.Ieee.{Float, binary64, ofBits}
 use lib.Ieee as Ieee
 use Rattle.meaning.specs.Lists.{upTo, downFrom, keep, some, placeFrom, lowest}
-use Rattle.meaning.specs.Table.{lengthAllowed, goodRoot, goodName, goodSize, nearest, goodParent, goodRow, broken, accepted}
+use Rattle.meaning.specs.Table.{lengthAllowed, hasElement, goodRoot, goodName, goodSize, nearest, goodParent, textOfRoot, elementOfRoot, laterElement, previousSibling, textAfterText, goodRow, broken, accepted}
 use Rattle.meaning.specs.Axis.{axisOf, inside, on, testOf, passes, isReverse, ordered, axisNodes, place, candidates}
 use Rattle.meaning.specs.Rows.{rowsOf, pathLengthAllowed, badLiteral, badLiteralAt, opOf, fieldsOf, code, isNumber, isTruth, isPath, isStep, isPredicate, isLiteral, isUnknown, isLink, takes, mayMiss, goodLink, goodTest, goodField, goodFields, follow, firstLink, secondLink, links, linkedBelow, linksAgain, misplaced, brokenRow}
 use Rattle.meaning.specs.Tree.{indexOrAxis, testAt, linked, tree, depth}
 use Rattle.meaning.specs.Meaning.{float, nonzero, applied, keepAt, isAbsolute, startOf, union, value, select, walk, filtered}
 use Rattle.meaning.specs.Turning.{contextual, overPath, numeric, asks, counting, steps, counts, firstCounting, inverseOf, predicates, test, back, turned, weight, link, row, written}
-use Rattle.meaning.specs.Answers.{tableChecks, askable, axisPlace, pathChecks, evaluation, output, evaluated, countingStep, absolutePath, turning, turnedOutput}
+use Rattle.meaning.specs.Answers.{tableChecks, tableAnswer, askable, axisPlace, pathChecks, evaluation, output, evaluated, countingStep, absolutePath, turning, turnedOutput}
 use Rattle.meaning.specs.declared.Answer.{Answer}
 
 -- a row of a table, and a row of a path, before those behind it
@@ -38,12 +38,13 @@ reference =
     (node 1 4 6 0
     [])))))))))
 
--- a path run on the reference tree from a node with the nodes that it selects, a path turned with the rows that come out, or an axis of
--- a node with nodes of the tree and their places
+-- a path run on the reference tree from a node with the nodes that it selects, a path turned with the rows that come out, an axis of
+-- a node with nodes of the tree and their places, or a table with its number and place
 pub data Case : Type 0 where
   selects : List ℕ → List Float → ℕ → List ℕ → Case
   turns : List ℕ → List ℕ → Case
   stand : ℕ → ℕ → List ℕ → List ℕ → Case
+  checked : List ℕ → ℕ → ℕ → Case
 
 -- what the output slice holds before the run
 abbrev pub blank : List ℕ
@@ -59,12 +60,14 @@ given (selects p literals start nodes) =
     outcome (evaluation reference p literals start (length blank)) (evaluated reference p literals start blank)
 given (turns p rows) = outcome (turning p [] (length blank)) (turnedOutput p [] blank)
 given (stand axis x nodes places) = map (axisPlace reference axis x) nodes
+given (checked t number place) = outcome (tableAnswer t) []
 
 -- what the documents list
 unfoldable pub listed : Case → List ℕ
 listed (selects p literals start nodes) = 0 ∷ length nodes ∷ nodes ++ drop (length nodes) blank
 listed (turns p rows) = 0 ∷ rowsOf rows ∷ rows ++ drop (length rows) blank
 listed (stand axis x nodes places) = places
+listed (checked t number place) = number ∷ place ∷ []
 
 unfoldable pub each : (Case → List ℕ) → List Case → List (List ℕ)
 each f [] = []
@@ -94,6 +97,9 @@ half = ofBits binary64 0x3FE0000000000000
 -- W-208: R13 turned twice, and from 1
 -- W-203: every node's place on preceding of 8 (R2), on ancestor of 9 (R4) and on following-sibling of 0; on self and preceding of 10, which
 -- is no row
+-- W-206: the single row; no element, beside a broken row and where a kind is 7; an element that is broken itself, that stands behind a
+-- broken row, and that is no child of the root; a text before the element and one behind it; a second element; two texts side by side;
+-- text, element that ends in a text, text; text, comment, text
 abbrev pub cases : List Case
 cases =
     selects (line 23 0 0 0 0 []) [] 5 (0 ∷ [])
@@ -138,9 +144,21 @@ cases =
     ∷ stand 9 0 (upTo 10) (replicate 10 0)
     ∷ stand 0 10 (10 ∷ []) (0 ∷ [])
     ∷ stand 8 10 (3 ∷ []) (0 ∷ [])
+    ∷ checked (node 0 0 0 0 []) 2 0
+    ∷ checked (node 0 0 0 1 (node 2 9 0 0 [])) 2 0
+    ∷ checked (node 0 0 0 1 (node 7 1 0 0 [])) 2 0
+    ∷ checked (node 0 0 0 1 (node 1 0 0 0 [])) 2 1
+    ∷ checked (node 0 0 0 2 (node 9 0 0 0 (node 1 1 0 0 []))) 2 1
+    ∷ checked (node 0 0 0 2 (node 3 0 0 0 (node 1 1 1 0 []))) 2 2
+    ∷ checked (node 0 0 0 2 (node 2 0 0 0 (node 1 1 0 0 []))) 2 1
+    ∷ checked (node 0 0 0 2 (node 1 1 0 0 (node 2 0 0 0 []))) 2 2
+    ∷ checked (node 0 0 0 3 (node 1 1 0 0 (node 3 0 0 0 (node 1 1 0 0 [])))) 2 3
+    ∷ checked (node 0 0 0 3 (node 1 1 0 2 (node 2 0 1 0 (node 2 0 1 0 [])))) 2 3
+    ∷ checked (node 0 0 0 5 (node 1 1 0 4 (node 2 0 1 0 (node 1 2 1 1 (node 2 0 3 0 (node 2 0 1 0 [])))))) 0 6
+    ∷ checked (node 0 0 0 4 (node 1 1 0 3 (node 2 0 1 0 (node 3 0 1 0 (node 2 0 1 0 []))))) 0 5
     ∷ []
 
 -- the definitions give what the documents list
 pub r1-to-r13 : each given cases ≡ each listed cases
-unfolding each given listed upTo downFrom keep some placeFrom lowest lengthAllowed goodRoot goodName goodSize nearest goodParent goodRow broken accepted axisOf inside on testOf passes isReverse ordered axisNodes place candidates pathLengthAllowed badLiteral badLiteralAt opOf fieldsOf code isNumber isTruth isPath isStep isPredicate isLiteral isUnknown isLink takes mayMiss goodLink goodTest goodField goodFields follow firstLink secondLink links linkedBelow linksAgain misplaced brokenRow indexOrAxis testAt linked tree depth float nonzero applied keepAt isAbsolute startOf union value select walk filtered contextual overPath numeric asks counting steps counts firstCounting inverseOf predicates test back turned weight link row written tableChecks askable axisPlace pathChecks evaluation output evaluated countingStep absolutePath turning turnedOutput Ieee.isNan Ieee.toBits Ieee.ofBits Ieee.ofInt Ieee.eq Ieee.ne Ieee.lt Ieee.le Ieee.add Ieee.sub Ieee.mul Ieee.div Ieee.rem Ieee.neg
+unfolding each given listed upTo downFrom keep some placeFrom lowest lengthAllowed hasElement goodRoot goodName goodSize nearest goodParent textOfRoot elementOfRoot laterElement previousSibling textAfterText goodRow broken accepted axisOf inside on testOf passes isReverse ordered axisNodes place candidates pathLengthAllowed badLiteral badLiteralAt opOf fieldsOf code isNumber isTruth isPath isStep isPredicate isLiteral isUnknown isLink takes mayMiss goodLink goodTest goodField goodFields follow firstLink secondLink links linkedBelow linksAgain misplaced brokenRow indexOrAxis testAt linked tree depth float nonzero applied keepAt isAbsolute startOf union value select walk filtered contextual overPath numeric asks counting steps counts firstCounting inverseOf predicates test back turned weight link row written tableChecks tableAnswer askable axisPlace pathChecks evaluation output evaluated countingStep absolutePath turning turnedOutput Ieee.isNan Ieee.toBits Ieee.ofBits Ieee.ofInt Ieee.eq Ieee.ne Ieee.lt Ieee.le Ieee.add Ieee.sub Ieee.mul Ieee.div Ieee.rem Ieee.neg
 r1-to-r13 = refl

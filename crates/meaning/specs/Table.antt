@@ -1,4 +1,4 @@
--- The node table (document 01, "The node table"): four numbers a row; row i is node i, and row order is document order.
+-- The node table (document 01, "The node table"; document 02, W-206): four numbers a row; row i is node i, and row order is document order.
 -- Assumes nothing: these are definitions.
 use Prim.Native.Nat.{ℕ, _+_, _-_, _*_, _/_, _%_}
 use mathlib.Core.Bool.{Bool, _&&_, _||_, not, cond}
@@ -27,6 +27,13 @@ size t i = getD t (4 * i + 3) 0
 abbrev pub rows : List ℕ → ℕ
 rows t = length t / 4
 
+-- is row i an element, of kind 1? A text, of kind 2?
+abbrev pub isElement : List ℕ → ℕ → Bool
+isElement t i = eqb (kind t i) 1
+
+abbrev pub isText : List ℕ → ℕ → Bool
+isText t i = eqb (kind t i) 2
+
 -- 1 to 4,096 rows, and a multiple of 4
 unfoldable pub lengthAllowed : List ℕ → Bool
 lengthAllowed t = eqb (length t % 4) 0 && leb 1 (rows t) && leb (rows t) mostRows
@@ -35,9 +42,15 @@ lengthAllowed t = eqb (length t % 4) 0 && leb 1 (rows t) && leb (rows t) mostRow
 abbrev pub end : List ℕ → ℕ → ℕ
 end t i = i + size t i
 
--- row 0: kind 0, name 0, parent 0, size rows minus 1
+-- has the table an element: a row of kind 1, whatever else is wrong with it?
+unfoldable pub hasElement : List ℕ → Bool
+hasElement t = some (isElement t) (upTo (rows t))
+
+-- row 0: kind 0, name 0, parent 0, size rows minus 1; and the table has an element
 unfoldable pub goodRoot : List ℕ → Bool
-goodRoot t = eqb (kind t 0) 0 && eqb (name t 0) 0 && eqb (parentOf t 0) 0 && eqb (size t 0) (rows t - 1)
+goodRoot t =
+    eqb (kind t 0) 0 && eqb (name t 0) 0 && eqb (parentOf t 0) 0 && eqb (size t 0) (rows t - 1)
+    && hasElement t
 
 -- name is 1 to 65,535 for kinds 1 and 4, else 0
 unfoldable pub goodName : ℕ → ℕ → Bool
@@ -55,6 +68,30 @@ nearest t i j = ltb j i && leb i (end t j) && not (some (λ k. ltb j k && leb i 
 unfoldable pub goodParent : List ℕ → ℕ → Bool
 goodParent t i = nearest t i (parentOf t i) && leb (end t i) (end t (parentOf t i))
 
+-- is row i a text child of the root?
+unfoldable pub textOfRoot : List ℕ → ℕ → Bool
+textOfRoot t i = isText t i && eqb (parentOf t i) 0
+
+-- is row i an element child of the root?
+unfoldable pub elementOfRoot : List ℕ → ℕ → Bool
+elementOfRoot t i = isElement t i && eqb (parentOf t i) 0
+
+-- and one after another?
+unfoldable pub laterElement : List ℕ → ℕ → Bool
+laterElement t i = elementOfRoot t i && some (elementOfRoot t) (upTo i)
+
+-- is j a sibling of i that stands before it? Siblings share a parent; the root is nobody's sibling
+abbrev pub siblingBefore : List ℕ → ℕ → ℕ → Bool
+siblingBefore t i j = ltb 0 j && ltb j i && eqb (parentOf t j) (parentOf t i)
+
+-- is j the previous sibling of i, the nearest of those?
+unfoldable pub previousSibling : List ℕ → ℕ → ℕ → Bool
+previousSibling t i j = siblingBefore t i j && not (some (λ k. ltb j k && siblingBefore t i k) (upTo i))
+
+-- is row i a text whose previous sibling is text?
+unfoldable pub textAfterText : List ℕ → ℕ → Bool
+textAfterText t i = isText t i && some (λ j. previousSibling t i j && isText t j) (upTo i)
+
 -- other rows: kinds 1 to 4
 unfoldable pub goodRow : List ℕ → ℕ → Bool
 goodRow t i =
@@ -62,6 +99,9 @@ goodRow t i =
     && goodName (kind t i) (name t i)
     && goodSize (kind t i) (size t i)
     && goodParent t i
+    && not (textOfRoot t i)
+    && not (laterElement t i)
+    && not (textAfterText t i)
 
 -- a row is broken if a rule for it fails
 unfoldable pub broken : List ℕ → ℕ → Bool

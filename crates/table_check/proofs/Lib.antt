@@ -1,1 +1,2 @@
 mod Next
+mod Siblings

@@ -2,23 +2,23 @@
 -- well placed exactly if it stands there and ends inside its parent. Then the rows passed.
 -- Assumes nothing.
 use Prim.Native.Nat.{ℕ, _+_, _-_, _<_, _≤_}
-use mathlib.Core.Path.{_≡_, refl, sym, subst, _∙_}
+use mathlib.Core.Path.{_≡_, refl, sym}
 use mathlib.Core.Logic.{inl, inr}
-use mathlib.Core.Bool.{Bool, true, false, _&&_, not, and-false}
+use mathlib.Core.Bool.{Bool, true, false, _&&_, not, and-true, and-false}
 use mathlib.Core.List.{List}
 use lib.ListN.{length, getD, set, length-set}
 use lib.Seq.{getD-set-same, getD-set-other}
-use lib.Dec.{T, leb, ltb, eqb, leb→le, eqb→eq, le→leb, lt→ltb}
+use lib.Dec.{T, leb, ltb, eqb, leb→le, eqb→eq}
 use native.Mathlib.Omega.{arith}
 use native.Mathlib.Nat.{eq-or-lt-of-le}
 use borrow.Author.Tests.{ne-eqb, lt-ltb, le-ltb, le-leb, lt-leb}
 use Rattle.meaning.specs.Lists.{upTo, some, lowest}
-use Rattle.meaning.specs.Table.{rows, mostRows, lengthAllowed, parentOf, size, end, goodRoot, nearest, goodParent, goodRow, broken}
-use Rattle.meaning.proofs.Bools.{and-l, and-r, and-i, truly, same, eq→eqb, lt-or-ge, eq-or-ne}
+use Rattle.meaning.specs.Table.{rows, mostRows, lengthAllowed, kind, name, parentOf, size, end, isElement, isText, goodRoot, nearest, goodParent, textOfRoot, elementOfRoot, laterElement, previousSibling, textAfterText, goodRow, broken}
+use Rattle.meaning.proofs.Bools.{and-l, and-r, and-i, truly, is-true, same, eq→eqb, lt-or-ge, eq-or-ne}
 use Rattle.meaning.proofs.Lists.{none-below}
-use Rattle.meaning.proofs.Tables.{Child, good-child, nearest-largest}
+use Rattle.meaning.proofs.Tables.{Child, good-parent, good-child, nearest-largest}
 use Rattle.meaning.proofs.Checks.{Passed, passed-start, passed-more, passed-found}
-use Rattle.table_check.specs.Next.{Stands, Next}
+use Rattle.table_check.specs.Next.{goodNumbers, wellPlaced, Stands, Next}
 
 module _ (t : List ℕ) where
   -- the root's first child must stand at row 1
@@ -65,6 +65,26 @@ module _ (t : List ℕ) where
           | inr a ↦ rw (le-ltb p k a)
         ]) in
         rw (lt-ltb p i l, le-leb i (end t p) (omega (arith, leb→le (end t i) (end t p) w)), none) w)
+
+    -- a row that is not well placed is not good; of one that is, the rules for a child of the root decide, or the one for texts
+    pub ill-placed : wellPlaced t i ≡ false → goodRow t i ≡ false
+    unfolding goodRow
+    ill-placed h = rw h
+
+    pub good-of-root : wellPlaced t i ≡ true → parentOf t i ≡ 0 → goodRow t i ≡ (not (textOfRoot t i) && not (laterElement t i))
+    unfolding goodRow textOfRoot textAfterText
+    good-of-root h e = rw (h, e) (by (isText t i))
+      where
+        by : (b : Bool) → (not (b && true) && not (laterElement t i) && not (b && some (λ j. previousSibling t i j && isText t j) (upTo i))) ≡ (not (b && true) && not (laterElement t i))
+        by true = refl
+        by false = and-true (not (laterElement t i))
+
+    pub good-inner : wellPlaced t i ≡ true → (parentOf t i ≡ 0 → ⊥) → goodRow t i ≡ not (textAfterText t i)
+    unfolding goodRow textOfRoot laterElement elementOfRoot
+    good-inner h d = rw (h, ne-eqb (parentOf t i) 0 d, and-false (isText t i), and-false (isElement t i))
+
+    pub placed-parent : wellPlaced t i ≡ true → goodParent t i ≡ true
+    placed-parent h = is-true (goodParent t i) (and-r (goodNumbers (kind t i) (name t i) (size t i)) (goodParent t i) (truly h))
 
     -- and not where its parent does not stand before it
     pub misplaced : i ≤ parentOf t i → goodParent t i ≡ false
@@ -126,11 +146,9 @@ module _ (t : List ℕ) where
       parent-stands = known (parentOf t i) (sound-child .below)
 
       stands-here : getD next (parentOf t i) 0 ≡ i
-      unfolding goodRow
       stands-here =
           let m : ℕ = getD next (parentOf t i) 0 in
-          let g : T (goodRow t i) = truly sound in
-          let h : T (goodParent t i) = search and-r in
+          let h : T (goodParent t i) = good-parent t i (truly sound) in
           eqb→eq m i (and-l (eqb m i) (leb (end t i) (end t (parentOf t i))) (rw (placed m (sound-child .below) parent-stands) at h))
 
       -- a sound row passes it on

@@ -1,5 +1,7 @@
-// The table checker (document 01, "The node table" and "Numbers given back"): one pass over the rows, sums in 64 bits.
+// The table checker (document 01, "The node table" and "Numbers given back"; document 02, W-206): one look for the first element and one
+// pass over the rows, sums in 64 bits.
 use basics::at_most;
+use basics::below;
 use basics::both;
 use basics::either;
 use basics::given;
@@ -16,9 +18,9 @@ ghost use mathlib.Core.Path.{_≡_};
 ghost use mathlib.Core.Bool.{true};
 ghost use Prim.Native.Nat.{_+_, _<_, _≤_};
 ghost use Rattle.meaning.specs.Lists.{lowest};
-ghost use Rattle.meaning.specs.Table.{rows, mostRows, lengthAllowed, goodRoot, goodName, goodRow, broken};
+ghost use Rattle.meaning.specs.Table.{rows, mostRows, lengthAllowed, goodRoot, goodName, goodParent, textOfRoot, laterElement, textAfterText, goodRow, broken};
 ghost use Rattle.meaning.specs.Promises.{ChecksTable};
-ghost use Rattle.table_check.specs.Next.{goodNumbers, Next, Looked};
+ghost use Rattle.table_check.specs.Next.{firstElement, goodNumbers, wellPlaced, Behind, Next, Looked};
 
 // 1 to 4,096 rows, and a multiple of 4.
 fn length_allowed(table: &[u32]) -> bool
@@ -29,14 +31,31 @@ fn length_allowed(table: &[u32]) -> bool
     both(some_rows, at_most(n, MOST_ROWS))
 }
 
-// Row 0: kind 0, name 0, parent 0, size rows minus 1.
-fn good_root(table: &[u32]) -> bool
-    requires { ⌜ 0 < rows (now table) ⌝ }
+// The lowest row of kind 1, or the row count where there is none.
+fn first_element(table: &[u32]) -> usize
+    ensures { λ r. ⌜ r ≡ firstElement (now (table .entry)) ⌝ }
+{
+    let n = row_count(table);
+    let mut i = 0;
+    while i < n {
+        if kind_at(table, i) == 1 {
+            return i;
+        }
+        i += 1;
+    }
+    n
+}
+
+// Row 0: kind 0, name 0, parent 0, size rows minus 1; and some row is an element.
+fn good_root(table: &[u32], first: usize) -> bool
+    requires { ⌜ (0 < rows (now table)) × (first ≡ firstElement (now table)) ⌝ }
     ensures { λ r. ⌜ r ≡ goodRoot (now (table .entry)) ⌝ }
 {
     let plain = both(same(kind_at(table, 0), 0), same(name_at(table, 0), 0));
     let placed = both(plain, same(parent_at(table, 0), 0));
-    both(placed, same(size_at(table, 0), row_count(table) - 1))
+    let n = row_count(table);
+    let sized = both(placed, same(size_at(table, 0), n - 1));
+    both(sized, below(first, n))
 }
 
 // A name is 1 to 65,535 for kinds 1 and 4, else 0.
@@ -59,11 +78,11 @@ fn good_numbers(kind: usize, name: usize, size: usize) -> bool
     both(named, either(same(kind, 1), same(size, 0)))
 }
 
-// Is row i, which is not the root, as the rules have it? next has for each lower row where its next child must stand: a row is
+// Are row i's own numbers and its parent as the rules have them? next has for each lower row where its next child must stand: a row is
 // well placed exactly if it stands there and ends inside its parent.
-fn good_row(table: &[u32], i: usize, next: &[u16]) -> bool
+fn well_placed(table: &[u32], i: usize, next: &[u16]) -> bool
     requires { ⌜ Looked (now table) i (now next) ⌝ }
-    ensures { λ r. ⌜ r ≡ goodRow (now (table .entry)) i ⌝ }
+    ensures { λ r. ⌜ r ≡ wellPlaced (now (table .entry)) i ⌝ }
 {
     let parent = parent_at(table, i);
     if i <= parent {
@@ -73,6 +92,52 @@ fn good_row(table: &[u32], i: usize, next: &[u16]) -> bool
     let inside = at_most(end_at(table, i), end_at(table, parent));
     let stands = same(next[parent] as usize, i);
     both(sound, both(stands, inside))
+}
+
+// Is row i a text child of the root?
+fn text_of_root(table: &[u32], i: usize) -> bool
+    requires { ⌜ i < rows (now table) ⌝ }
+    ensures { λ r. ⌜ r ≡ textOfRoot (now (table .entry)) i ⌝ }
+{
+    both(same(kind_at(table, i), 2), same(parent_at(table, i), 0))
+}
+
+// Is row i an element child of the root after another? The table's first element is one, so every later one is.
+fn later_element(table: &[u32], i: usize, first: usize) -> bool
+    requires { ⌜ Behind (now table) i × (first ≡ firstElement (now table)) ⌝ }
+    ensures { λ r. ⌜ r ≡ laterElement (now (table .entry)) i ⌝ }
+{
+    let of_root = both(same(kind_at(table, i), 1), same(parent_at(table, i), 0));
+    both(of_root, below(first, i))
+}
+
+// Is row i a text whose previous sibling is text? A text has nothing inside it, so that sibling is the row before.
+fn text_after_text(table: &[u32], i: usize) -> bool
+    requires { ⌜ Behind (now table) i × (goodParent (now table) i ≡ true) ⌝ }
+    ensures { λ r. ⌜ r ≡ textAfterText (now (table .entry)) i ⌝ }
+{
+    if kind_at(table, i) != 2 {
+        return false;
+    }
+    both(
+        same(kind_at(table, i - 1), 2),
+        same(parent_at(table, i - 1), parent_at(table, i)),
+    )
+}
+
+// Is row i, which is not the root, as the rules have it? Few rows are children of the root, and few are texts: the others are done after
+// two tests.
+fn good_row(table: &[u32], i: usize, first: usize, next: &[u16]) -> bool
+    requires { ⌜ Looked (now table) i (now next) × (first ≡ firstElement (now table)) ⌝ }
+    ensures { λ r. ⌜ r ≡ goodRow (now (table .entry)) i ⌝ }
+{
+    if !well_placed(table, i, next) {
+        return false;
+    }
+    if parent_at(table, i) == 0 {
+        return both(!text_of_root(table, i), !later_element(table, i, first));
+    }
+    !text_after_text(table, i)
 }
 
 // Row i is sound: its own first child must stand right behind it, and its parent's next one behind its subtree.
@@ -90,14 +155,15 @@ fn lowest_broken_row(table: &[u32]) -> usize
     requires { ⌜ (0 < rows (now table)) × (rows (now table) ≤ mostRows) ⌝ }
     ensures { λ r. ⌜ r ≡ lowest (broken (now (table .entry))) (rows (now (table .entry))) ⌝ }
 {
-    if !good_root(table) {
+    let first = first_element(table);
+    if !good_root(table, first) {
         return 0;
     }
     let n = row_count(table);
     let mut next = [1u16; MOST_ROWS];
     let mut i = 1;
     while i < n {
-        if !good_row(table, i, &next) {
+        if !good_row(table, i, first, &next) {
             return i;
         }
         pass_row(table, i, &mut next);

@@ -1,90 +1,59 @@
--- `table_check::good_row` meets its contract: by what its reads gave; where the row's parent stands before it, it is well placed exactly
--- if it stands where that one's next child must and ends inside it.
+-- `table_check::good_row` meets its contract: a row that is not well placed is not good, and of one that is, the rules for its place gave their
+-- answers.
 -- Assumes nothing.
-use native.Mathlib.Omega.{arith}
-use Prim.Native.Nat.{_<_}
-use mathlib.Core.Path.{sym}
-use mathlib.Core.Bool.{and-false}
-use Rattle.meaning.specs.Table.{parentOf, goodRow}
-use Rattle.table_check.specs.Next.{Next}
-use Rattle.table_check.proofs.Next.{placed, misplaced}
+use mathlib.Core.Path.{sym, _∙_}
 use borrow.Author.Needs.{needs}
+use borrow.Author.Tests.{not-true, not-false}
+use Rattle.table_check.proofs.Next.{ill-placed, good-of-root, good-inner, placed-parent}
 use Rattle.table_check.proofs.good_row.Statement.{statement}
 use Rattle.table_check.proofs.good_row.Tie as tie
+
+well-placed-requires : tie.Need-well-placed-requires
+well-placed-requires c κs = search needs
+
+returns : tie.Need-returns
+returns c = sym (ill-placed _ _ (sym (c .before .well-placed .ensures) ∙ not-true _ (c .if1 .taken)))
 
 parent-at-requires : tie.Need-parent-at-requires
 parent-at-requires c κs = search needs
 
-returns : tie.Need-returns
-unfolding goodRow
-returns c =
-    let start = c .before .before .before .before in
-    sym (rw (misplaced (start .args .table .now) (start .args .i) (rw (c .before .parent-at .ensures .0) at (c .if1 .taken)), and-false))
+text-of-root-requires : tie.Need-text-of-root-requires
+text-of-root-requires c κs = search needs
 
-kind-at-requires : tie.Need-kind-at-requires
-kind-at-requires c κs = search needs
-
-name-at-requires : tie.Need-name-at-requires
-name-at-requires c κs = search needs
-
-size-at-requires : tie.Need-size-at-requires
-size-at-requires c κs = search needs
-
-good-numbers-requires : tie.Need-good-numbers-requires
-good-numbers-requires c κs = search needs
-
-end-at-requires : tie.Need-end-at-requires
-end-at-requires c κs = search needs
-
-end-at-requires-2 : tie.Need-end-at-requires-2
-end-at-requires-2 c κs = search needs
-
-at-most-requires : tie.Need-at-most-requires
-at-most-requires c κs = search needs
-
-mul-same : tie.Need-mul-same
-mul-same c = search needs
-
-shared-slice-read-same : tie.Need-shared-slice-read-same
-shared-slice-read-same c = search needs
-
-cast-same : tie.Need-cast-same
-cast-same c = omega (arith, c .shared-slice-known3 .given (c .before .before .before .before .before .before .before .before .before .parent-at .result))
-
-same-requires : tie.Need-same-requires
-same-requires c κs = search needs
+later-element-requires : tie.Need-later-element-requires
+later-element-requires c κs = search needs
 
 both-requires : tie.Need-both-requires
 both-requires c κs = search needs
 
-both-requires-2 : tie.Need-both-requires-2
-both-requires-2 c κs = search needs
-
 returns-2 : tie.Need-returns-2
-unfolding goodRow Next
 returns-2 c =
-    let start = c .before .before .before .before .before .before .before .before .before .before .before .before .before .before .before in
-    let parent = c .before .before .before .before .before .before .before .before .before .before .before .before .parent-at in
-    let below : parentOf (start .args .table .now) (start .args .i) < start .args .i = omega arith in
-    rw (c .both2 .ensures, c .before .both .ensures, c .before .before .same .ensures, c .before .before .before .before .at-most .ensures, c .before .before .before .before .before .end-at2 .ensures .0, c .before .before .before .before .before .before .end-at .ensures .0, c .before .before .before .before .before .before .before .good-numbers .ensures, c .before .before .before .before .before .before .before .before .size-at .ensures .0, c .before .before .before .before .before .before .before .before .before .name-at .ensures .0, c .before .before .before .before .before .before .before .before .before .before .kind-at .ensures .0, parent .ensures .0, placed _ _ _ below (start .pre .known _ below))
+    let well = sym (c .before .before .before .before .before .before .well-placed .ensures) ∙ not-false _ (c .before .before .before .before .before .if1 .left) in
+    let of-root = rw (c .before .before .before .before .parent-at .ensures .0) at (c .before .before .before .if2 .taken) in
+    rw (c .both .ensures, c .before .later-element .ensures, c .before .before .text-of-root .ensures, good-of-root _ _ well of-root)
+
+text-after-text-requires : tie.Need-text-after-text-requires
+text-after-text-requires c κs =
+    let start = c .before .before .before .before .before .before in
+    let well = sym (c .before .before .before .well-placed .ensures) ∙ not-false _ (c .before .before .if1 .left) in
+    (start .pre .0 .behind, placed-parent _ _ well)
+
+returns-3 : tie.Need-returns-3
+returns-3 c =
+    let well = sym (c .before .before .before .before .well-placed .ensures) ∙ not-false _ (c .before .before .before .if1 .left) in
+    let inner = rw (c .before .before .parent-at .ensures .0) at (c .before .if2 .left) in
+    rw (c .text-after-text .ensures, good-inner _ _ well inner)
 
 pub good-row-spec : {M : Type 1} → statement M
 good-row-spec =
     tie.close
     (tie.spec
-    parent-at-requires
+    well-placed-requires
     returns
-    kind-at-requires
-    name-at-requires
-    size-at-requires
-    good-numbers-requires
-    end-at-requires
-    end-at-requires-2
-    at-most-requires
-    mul-same
-    shared-slice-read-same
-    cast-same
-    same-requires
+    parent-at-requires
+    text-of-root-requires
+    later-element-requires
     both-requires
-    both-requires-2
-    returns-2)
+    returns-2
+    text-after-text-requires
+    returns-3)

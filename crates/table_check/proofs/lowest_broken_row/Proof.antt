@@ -15,17 +15,20 @@ use Rattle.table_check.proofs.lowest_broken_row.Statement.{statement}
 use Rattle.table_check.proofs.lowest_broken_row.Tie as tie
 
 abbrev Inv-loop : tie.InvT-loop
-Inv-loop table n next₀ i₀ next i =
+Inv-loop table first n next₀ i₀ next i =
     (0 < i) × (i ≤ n) × (n ≡ rows table) × (length next ≡ mostRows) × Passed (broken table) i × Next table i next
 
 abbrev μ-loop : tie.MeasureT-loop
-μ-loop table n next₀ i₀ next i = n - i
+μ-loop table first n next₀ i₀ next i = n - i
+
+first-element-requires : tie.Need-first-element-requires Inv-loop μ-loop
+first-element-requires c κs = search needs
 
 good-root-requires : tie.Need-good-root-requires Inv-loop μ-loop
 good-root-requires c κs = search needs
 
 returns : tie.Need-returns Inv-loop μ-loop
-returns c = lowest-root _ (c .before .before .before .pre .0) (sym (c .before .good-root .ensures) ∙ not-true _ (c .if1 .taken))
+returns c = lowest-root _ (c .before .before .before .before .pre .0) (sym (c .before .good-root .ensures) ∙ not-true _ (c .if1 .taken))
 
 row-count-requires : tie.Need-row-count-requires Inv-loop μ-loop
 row-count-requires c κs = search needs
@@ -33,16 +36,18 @@ row-count-requires c κs = search needs
 loop-holds : tie.Need-loop-holds Inv-loop μ-loop
 loop-holds c =
     let root = sym (c .before .before .good-root .ensures) ∙ not-false _ (c .before .if1 .left) in
-    let some-row = c .before .before .before .before .pre .0 in
+    let some-row = c .before .before .before .before .before .pre .0 in
     (search needs, omega arith, c .row-count .ensures, search needs, sound-root _ root, next-start _ _ some-row root refl)
 
 slice-aggregate-good-row : tie.Need-slice-aggregate-good-row Inv-loop μ-loop
 slice-aggregate-good-row c = search needs
 
 good-row-requires : tie.Need-good-row-requires Inv-loop μ-loop
+unfolding Passed
 good-row-requires c κs =
     let inv = c .before .before .loop .inv in
-    record { inner = inv .0; row = omega arith; few = c .before .before .before .before .before .before .before .pre .1; long = inv .3; known = inv .5 }
+    let start = c .before .before .before .before .before .before .before .before in
+    (record { behind = record { inner = inv .0; row = omega arith; sound = inv .4 }; few = start .pre .1; long = inv .3; known = inv .5 }, c .before .before .before .before .before .before .first-element .ensures)
 
 returns-2 : tie.Need-returns-2 Inv-loop μ-loop
 returns-2 c =
@@ -53,9 +58,11 @@ slice-aggregate-pass-row : tie.Need-slice-aggregate-pass-row Inv-loop μ-loop
 slice-aggregate-pass-row c = search needs
 
 pass-row-requires : tie.Need-pass-row-requires Inv-loop μ-loop
+unfolding Passed
 pass-row-requires c κs =
     let inv = c .before .before .before .before .before .loop .inv in
-    (record { inner = inv .0; row = omega arith; few = c .before .before .before .before .before .before .before .before .before .before .pre .1; long = inv .3; known = inv .5 }, sym (c .before .before .good-row .ensures) ∙ not-false _ (c .before .if2 .left))
+    let start = c .before .before .before .before .before .before .before .before .before .before .before in
+    (record { behind = record { inner = inv .0; row = omega arith; sound = inv .4 }; few = start .pre .1; long = inv .3; known = inv .5 }, sym (c .before .before .good-row .ensures) ∙ not-false _ (c .before .if2 .left))
 
 add-i : tie.Need-add-i Inv-loop μ-loop
 add-i c = search needs
@@ -81,6 +88,7 @@ lowest-broken-row-spec =
     (tie.spec
     Inv-loop
     μ-loop
+    first-element-requires
     good-root-requires
     returns
     row-count-requires

@@ -41,7 +41,7 @@ slice-write-next-2 : tie.Need-slice-write-next-2
 slice-write-next-2 c =
     let start = c .before .before .before .before in
     let k = start .pre .0 .known in
-    simp length-set (omega (arith, start .pre .0 .long, start .pre .0 .few, start .pre .0 .row, sound-child _ _ _ k (start .pre .1) .below))
+    simp length-set (omega (arith, start .pre .0 .long, start .pre .0 .few, start .pre .0 .behind .row, sound-child _ _ _ k (start .pre .1) .below))
 
 same-length : tie.Need-same-length
 same-length c = search needs
@@ -50,7 +50,7 @@ returns : tie.Need-returns
 returns c =
     let start = c .before .before .before .before in
     let k = start .pre .0 .known in
-    rw (c .before .parent-at .ensures .0, c .end-at .ensures .0) (next-more _ _ _ k (start .pre .1) (omega (arith, start .pre .0 .long, start .pre .0 .few, start .pre .0 .row)))
+    rw (c .before .parent-at .ensures .0, c .end-at .ensures .0) (next-more _ _ _ k (start .pre .1) (omega (arith, start .pre .0 .long, start .pre .0 .few, start .pre .0 .behind .row)))
 
 pub pass-row-spec : {M : Type 1} → statement M
 pass-row-spec =
