@@ -32,11 +32,10 @@ static uint32_t random_name(struct random *random)
     return 1 + (chance(random, 4) ? below(random, 65535) : below(random, 4));
 }
 
-static uint32_t random_kind(struct random *random, enum shape shape)
+/* a name for a row of that kind, or 0 */
+static uint32_t name_for(struct random *random, uint32_t kind)
 {
-    if (shape == CHAIN || chance(random, 75))
-        return 1;
-    return 2 + below(random, 3);
+    return kind == 1 || kind == 4 ? random_name(random) : 0;
 }
 
 /* how many of the open nodes to close before the next row */
@@ -44,10 +43,66 @@ static uint32_t closing(struct random *random, enum shape shape, uint32_t open)
 {
     switch (shape) {
     case CHAIN: return chance(random, 3) ? below(random, 4) : 0;
-    case WIDE: return open - (below(random, 2000) > 0 ? 2 : 1);
-    case BUSHY: return open > 7 ? 3 + below(random, 5) : below(random, 2);
-    default: return chance(random, 50) ? 0 : below(random, open);
+    case WIDE: return open - (chance(random, 5) ? 3 : 2);
+    case BUSHY: return open > 8 ? 3 + below(random, 5) : below(random, 2);
+    default: return chance(random, 50) ? 0 : below(random, open - 1);
     }
+}
+
+/* a table under construction: the open nodes, the root first, and the kind of the last child of each */
+struct grower { struct random *random; uint32_t *table, rows, open, path[4096], last[4096]; };
+
+/* adds a row as a child of the innermost open node */
+static void grow(struct grower *g, uint32_t kind)
+{
+    uint32_t *row = g->table + 4 * g->rows;
+    row[0] = kind;
+    row[1] = name_for(g->random, kind);
+    row[2] = g->path[g->open - 1];
+    g->last[g->open - 1] = kind;
+    if (kind == 1) {
+        g->last[g->open] = 0;
+        g->path[g->open++] = g->rows;
+    }
+    g->rows++;
+}
+
+/* how many comments and instructions stand before or behind the root's element */
+static uint32_t around(struct random *random, uint32_t room)
+{
+    uint32_t count = chance(random, 20) ? 1 + below(random, 3) : 0;
+    return count < room ? count : room;
+}
+
+static void grow_around(struct grower *g, uint32_t count)
+{
+    for (; count > 0; count--)
+        grow(g, 3 + below(g->random, 2));
+}
+
+/* the kind of the next row, with so many elements in a hundred: never a text next to a text,
+ * often a text behind an element that ends in one */
+static uint32_t next_kind(struct grower *g, uint32_t elements)
+{
+    uint32_t last = g->last[g->open - 1], before = g->table[4 * g->rows - 4];
+    if (last == 1 && before == 2 && chance(g->random, 50))
+        return 2;
+    if (chance(g->random, elements))
+        return 1;
+    return last != 2 && chance(g->random, 50) ? 2 : 3 + below(g->random, 2);
+}
+
+/* the root's element and what is below it, up to row end; some small tables have many leaves */
+static void grow_element(struct grower *g, uint32_t end, enum shape shape)
+{
+    uint32_t elements = end < 100 && chance(g->random, 40) ? 45 : shape == CHAIN ? 97 : 75;
+    grow(g, 1);
+    while (g->rows < end) {
+        uint32_t closed = g->open > 2 ? closing(g->random, shape, g->open) : 0;
+        g->open = g->open > 2 + closed ? g->open - closed : 2;
+        grow(g, next_kind(g, elements));
+    }
+    g->open = 1;
 }
 
 /* size of each row, from the parents */
@@ -61,17 +116,24 @@ static void fill_sizes(uint32_t *table, uint32_t rows)
 
 void make_table(struct random *random, struct input *in, uint32_t rows, enum shape shape)
 {
-    uint32_t path[4096] = {0}, open = 1; /* the open nodes, the root first */
+    struct grower g = {random, in->table, 1, 1, {0}, {0}};
+    uint32_t before = around(random, rows - 2), behind = around(random, rows - 2 - before);
     memset(in->table, 0, sizeof in->table);
-    for (uint32_t i = 1; i < rows; i++) {
-        uint32_t *row = in->table + 4 * i;
-        uint32_t closed = open > 2 ? closing(random, shape, open) : 0;
-        open = closed >= open ? 1 : open - closed;
-        row[0] = random_kind(random, shape);
-        row[1] = row[0] == 1 || row[0] == 4 ? random_name(random) : 0;
-        row[2] = path[open - 1];
-        if (row[0] == 1)
-            path[open++] = i;
+    grow_around(&g, before);
+    grow_element(&g, rows - behind, shape);
+    grow_around(&g, behind);
+    fill_sizes(in->table, rows);
+    in->table_len = 4 * (size_t)rows;
+}
+
+/* rows of any kinds, with names, parents and sizes that are sound */
+static void make_small_table(struct random *random, struct input *in, uint32_t rows)
+{
+    struct grower g = {random, in->table, 1, 1, {0}, {0}};
+    memset(in->table, 0, sizeof in->table);
+    while (g.rows < rows) {
+        g.open = chance(random, 60) ? g.open : 1 + below(random, g.open);
+        grow(&g, chance(random, 30) ? 1 : chance(random, 95) ? 1 + below(random, 4) : below(random, 6));
     }
     fill_sizes(in->table, rows);
     in->table_len = 4 * (size_t)rows;
@@ -341,18 +403,80 @@ static uint32_t odd_number(struct random *random, uint32_t old, uint32_t rows)
     }
 }
 
+/* gives a row without children another kind, most often text */
+static void retype_leaf(struct random *random, uint32_t *table, uint32_t rows)
+{
+    uint32_t i = below(random, rows), kind = chance(random, 60) ? 2 : 1 + below(random, 4);
+    while (i + 1 < rows && table[4 * i + 3] != 0)
+        i++;
+    table[4 * i] = kind;
+    table[4 * i + 1] = name_for(random, kind);
+}
+
+/* puts a row without children in front of row at, or under the root behind the last row */
+static void insert_leaf(struct random *random, struct input *in, uint32_t at, uint32_t kind)
+{
+    uint32_t *table = in->table, rows = (uint32_t)(in->table_len / 4);
+    uint32_t leaf[4] = {kind, name_for(random, kind), at < rows ? table[4 * at + 2] : 0, 0};
+    for (uint32_t i = rows; i > at; i--) {
+        memcpy(table + 4 * i, table + 4 * i - 4, sizeof leaf);
+        table[4 * i + 2] += table[4 * i + 2] >= at;
+    }
+    for (uint32_t i = 0; i < at && i <= leaf[2]; i++)
+        table[4 * i + 3] += (uint64_t)i + table[4 * i + 3] >= leaf[2];
+    memcpy(table + 4 * at, leaf, sizeof leaf);
+    in->table_len += 4;
+}
+
+/* puts a row without children under the root or anywhere, or a text in front of the next text */
+static void add_leaf(struct random *random, struct input *in, uint32_t rows)
+{
+    uint32_t at = 1 + below(random, rows), kind = 1 + below(random, 4);
+    switch (below(random, 6)) {
+    case 0: at = 1; break;
+    case 1: at = rows; break;
+    case 2: break;
+    default:
+        kind = 2;
+        while (at < rows && in->table[4 * at] != 2)
+            at++;
+    }
+    insert_leaf(random, in, at, kind);
+}
+
+/* gives every element another kind, or every one but the last */
+static void drop_elements(struct random *random, uint32_t *table, uint32_t rows)
+{
+    uint32_t kind = 2 + below(random, 4);
+    bool spared = chance(random, 30);
+    for (uint32_t i = rows; i > 0; i--) {
+        uint32_t *row = table + 4 * (i - 1);
+        if (row[0] != 1)
+            continue;
+        row[0] = spared ? 1 : kind;
+        row[1] = name_for(random, row[0]);
+        spared = false;
+    }
+}
+
 static void damage_table(struct random *random, struct input *in)
 {
-    uint32_t rows = (uint32_t)(in->table_len / 4);
+    uint32_t rows = (uint32_t)(in->table_len / 4), class = below(random, 100);
     static const size_t lengths[] = {0, 1, 3, 5, 7, 4 * 4097, 4 * 4096 + 1, 4 * 4099};
-    if (chance(random, 20)) {
+    if (class < 14) {
         in->table_len = lengths[below(random, 8)];
-    } else if (chance(random, 15)) {
+    } else if (class < 22) {
         in->table_len += below(random, 9);
-    } else {
+    } else if (class < 60) {
         uint32_t *row = in->table + 4 * below(random, rows);
         uint32_t *field = row + below(random, 4);
         *field = odd_number(random, *field, rows);
+    } else if (class < 76) {
+        retype_leaf(random, in->table, rows);
+    } else if (class < 96) {
+        add_leaf(random, in, rows);
+    } else {
+        drop_elements(random, in->table, rows);
     }
 }
 
@@ -422,12 +546,12 @@ static uint32_t table_rows(struct random *random)
 {
     uint32_t class = below(random, 100);
     if (class < 50)
-        return 1 + below(random, 12);
+        return 2 + below(random, 11);
     if (class < 82)
-        return 1 + below(random, 60);
+        return 2 + below(random, 59);
     if (class < 96)
-        return 1 + below(random, 600);
-    return class == 99 ? 4096 - below(random, 2) : 1 + below(random, 4096);
+        return 2 + below(random, 599);
+    return class == 99 ? 4096 - below(random, 2) : 2 + below(random, 4095);
 }
 
 static void any_path(struct random *random, struct input *in)
@@ -457,8 +581,12 @@ static uint32_t any_node(struct random *random, uint32_t rows)
 
 void make_input(struct random *random, struct input *in)
 {
-    uint32_t rows = table_rows(random);
-    make_table(random, in, rows, (enum shape)below(random, SHAPES));
+    bool small = chance(random, 5);
+    uint32_t rows = small ? 1 + below(random, 12) : table_rows(random);
+    if (small)
+        make_small_table(random, in, rows);
+    else
+        make_table(random, in, rows, (enum shape)below(random, SHAPES));
     make_literals(random, in);
     any_path(random, in);
     make_list(random, in);
@@ -470,6 +598,6 @@ void make_input(struct random *random, struct input *in)
         damage_literals(random, in);
     for (uint32_t n = chance(random, 25) ? 1 + below(random, 3) : 0; n > 0 && in->path_len >= 5; n--)
         damage_path(random, in);
-    for (uint32_t n = chance(random, 15) ? 1 + below(random, 2) : 0; n > 0 && in->table_len >= 4; n--)
+    for (uint32_t n = chance(random, 22) ? 1 + below(random, 2) : 0; n > 0 && in->table_len >= 4; n--)
         damage_table(random, in);
 }

@@ -31,9 +31,19 @@ static uint64_t reach_of(const uint32_t *table, uint64_t i)
     return i + (uint64_t)row_at(table, i).size;
 }
 
+static bool some_element(const uint32_t *table, uint64_t rows)
+{
+    for (uint64_t i = 0; i < rows; i++)
+        if (row_at(table, i).kind == ELEMENT)
+            return true;
+    return false;
+}
+
 static bool root_row_holds(const uint32_t *table, uint64_t rows)
 {
     struct row row = row_at(table, 0);
+    if (!some_element(table, rows))
+        return false;
     return row.kind == ROOT && row.name == 0 && row.parent == 0 && row.size == rows - 1;
 }
 
@@ -56,6 +66,33 @@ static bool parent_holds(const uint32_t *table, uint64_t i)
     return false;
 }
 
+/* whether an earlier row than i is an element child of the root */
+static bool earlier_root_element(const uint32_t *table, uint64_t i)
+{
+    for (uint64_t j = 1; j < i; j++)
+        if (row_at(table, j).kind == ELEMENT && row_at(table, j).parent == 0)
+            return true;
+    return false;
+}
+
+/* the nearest lower row with the same parent, or 0: row 0 is nobody's sibling */
+static uint64_t previous_sibling(const uint32_t *table, uint64_t i)
+{
+    uint64_t j = i - 1;
+    while (j > 0 && row_at(table, j).parent != row_at(table, i).parent)
+        j--;
+    return j;
+}
+
+/* the root has one element child and no text child; no text stands next to a text sibling */
+static bool siblings_hold(const uint32_t *table, uint64_t i)
+{
+    struct row row = row_at(table, i);
+    if (row.kind == TEXT)
+        return row.parent != 0 && row_at(table, previous_sibling(table, i)).kind != TEXT;
+    return row.kind != ELEMENT || row.parent != 0 || !earlier_root_element(table, i);
+}
+
 static bool other_row_holds(const uint32_t *table, uint64_t i)
 {
     struct row row = row_at(table, i);
@@ -63,7 +100,7 @@ static bool other_row_holds(const uint32_t *table, uint64_t i)
         return false;
     if (row.kind != ELEMENT && row.size != 0)
         return false;
-    return name_holds(row) && parent_holds(table, i);
+    return name_holds(row) && parent_holds(table, i) && siblings_hold(table, i);
 }
 
 uint32_t ref_check_table(const uint32_t *table, size_t table_len, uint32_t *place)

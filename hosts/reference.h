@@ -1,7 +1,7 @@
 /* reference.h: an independent checker and evaluator in plain C, to compare with.
  *
- * Written from the XPath 1.0 Recommendation and document 01 alone. It works on
- * a linked tree of nodes and on a syntax tree of the path, as the
+ * Written from the XPath 1.0 Recommendation and documents 01 and 02 alone. It
+ * works on a linked tree of nodes and on a syntax tree of the path, as the
  * Recommendation speaks of them; speed and memory don't matter to it.
  * Each function answers as its namesake in bargetulip.h does.
  */

@@ -13,6 +13,9 @@
  *   name    1 to 65,535 for kinds 1 and 4, otherwise 0
  *   parent  row number of the parent; 0 in row 0
  *   size    number of descendants; 0 for kinds 2, 3 and 4
+ * The root has one element child and no text child, and no text directly
+ * follows a text sibling: a second element and such texts are broken rows.
+ * Row 0 is broken if there is no row of kind 1.
  *
  * A path is 5 numbers a row (op, a, b, c, d), 1 to 256 rows. A link is a row
  * number plus one and names a lower row; 0 is no link. Every row but the last
