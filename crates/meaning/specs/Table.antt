@@ -76,7 +76,7 @@ textOfRoot t i = isText t i && eqb (parentOf t i) 0
 unfoldable pub elementOfRoot : List ℕ → ℕ → Bool
 elementOfRoot t i = isElement t i && eqb (parentOf t i) 0
 
--- and one after another?
+-- is it one after another element child of the root?
 unfoldable pub laterElement : List ℕ → ℕ → Bool
 laterElement t i = elementOfRoot t i && some (elementOfRoot t) (upTo i)
 

@@ -66,6 +66,11 @@ module _ (t : List ℕ) where
         ]) in
         rw (lt-ltb p i l, le-leb i (end t p) (omega (arith, leb→le (end t i) (end t p) w)), none) w)
 
+    -- and not where its parent does not stand before it
+    pub misplaced : i ≤ parentOf t i → goodParent t i ≡ false
+    unfolding goodParent nearest
+    misplaced h = rw (le-ltb (parentOf t i) i h)
+
     -- a row that is not well placed is not good; of one that is, the rules for a child of the root decide, or the one for texts
     pub ill-placed : wellPlaced t i ≡ false → goodRow t i ≡ false
     unfolding goodRow
@@ -85,11 +90,6 @@ module _ (t : List ℕ) where
 
     pub placed-parent : wellPlaced t i ≡ true → goodParent t i ≡ true
     placed-parent h = is-true (goodParent t i) (and-r (goodNumbers (kind t i) (name t i) (size t i)) (goodParent t i) (truly h))
-
-    -- and not where its parent does not stand before it
-    pub misplaced : i ≤ parentOf t i → goodParent t i ≡ false
-    unfolding goodParent nearest
-    misplaced h = rw (le-ltb (parentOf t i) i h)
 
     module _ (c : Child t i) (m : ℕ) (s : Stands t i (parentOf t i) m) where
       -- the first child of row i must stand right behind it
