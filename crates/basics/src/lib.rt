@@ -62,3 +62,18 @@ pub fn given(number: u32, place: usize) -> Answer
         place: place as u32,
     }
 }
+
+// What a function over bytes gives back: its number, and a place that counts bytes, numbers or lines.
+pub struct WideAnswer {
+    pub number: u32,
+    pub place: u64,
+}
+
+pub fn told(number: u32, place: usize) -> WideAnswer
+    ensures { λ r. ⌜ (r .number ≡ number) × (r .place ≡ place) ⌝ }
+{
+    WideAnswer {
+        number,
+        place: place as u64,
+    }
+}
