@@ -138,6 +138,16 @@ leading-leading (b ∷ s) = by (isDigit b) refl (leading-leading s)
     by true e more = rw e (rw (e, more))
     by false e more = rw e
 
+-- a text is the digits at its front and the rest
+pub leading-split : (s : List ℕ) → s ≡ leading s ++ drop (length (leading s)) s
+unfolding leading
+leading-split [] = refl
+leading-split (b ∷ s) = by (isDigit b) refl (leading-split s)
+  where
+    by : (t : Bool) → isDigit b ≡ t → s ≡ leading s ++ drop (length (leading s)) s → b ∷ s ≡ leading (b ∷ s) ++ drop (length (leading (b ∷ s))) (b ∷ s)
+    by true e more = rw e (ap (λ (l : List ℕ). b ∷ l) more)
+    by false e more = rw e
+
 pub digits-digits : (n : ℕ) → Digits (digits n)
 unfolding leading
 digits-digits =
@@ -151,7 +161,7 @@ digit-range b e =
     (leb→le 48 b (and-l (leb 48 b) (leb b 57) r), leb→le b 57 (and-r (leb 48 b) (leb b 57) r))
 
 -- the first of digits is one, and so are the others
-first-digit : (b : ℕ) (s : List ℕ) → Digits (b ∷ s) → (48 ≤ b) × (b ≤ 57) × Digits s
+pub first-digit : (b : ℕ) (s : List ℕ) → Digits (b ∷ s) → (48 ≤ b) × (b ≤ 57) × Digits s
 unfolding leading
 first-digit b s h = by (isDigit b) refl
   where

@@ -1,10 +1,11 @@
--- Laws of what is laid into a slice: its length stays, what is laid behind something is laid with it, one entry is a store.
+-- Laws of what is laid into a slice: its length stays, what is laid behind something is laid with it, nothing changes nothing, one entry is a
+-- store.
 -- Assumes nothing.
 use Prim.Native.Nat.{ℕ, suc, _+_, _<_, _≤_}
 use native.Mathlib.Omega.{arith}
 use mathlib.Core.Path.{_≡_, refl, sym, ap, _∙_}
-use mathlib.Core.List.{List, [], _∷_, _++_, append-assoc}
-use lib.ListN.{length, take, drop, set, length-append, length-drop}
+use mathlib.Core.List.{List, [], _∷_, _++_, append-assoc, append-nil}
+use lib.ListN.{length, take, drop, set, length-append, length-drop, take-append-drop}
 use lib.Seq.{append-snoc, length-take-le, set-split, take-set-le, take-at, drop-at, drop-drop, drop-append-add}
 use Rattle.decimal.specs.Decimal.{laid}
 
@@ -42,6 +43,14 @@ module _ (out : List ℕ) (i : ℕ) (s : List ℕ) where
       rw (set-split out (i + length s) b h) (drop-at (take (i + length s) out) _ (i + length s) (length-take-le (i + length s) out (omega arith))) in
       let n : i + length (s ++ (b ∷ [])) ≡ suc (i + length s) = rw (length-append) (omega arith) in
       rw (t, d, n) (sym (append-snoc front b _) ∙ rw (append-assoc (take i out) s (b ∷ [])))
+
+-- at the front
+pub laid-front : (out s : List ℕ) → laid out 0 s ≡ s ++ drop (length s) out
+laid-front out s = let z : 0 + length s ≡ length s = omega arith in rw z
+
+-- nothing changes nothing
+pub laid-none : (out : List ℕ) (i : ℕ) → laid out i [] ≡ out
+laid-none out i = let z : i + 0 ≡ i = omega arith in rw (z, append-nil (take i out)) (take-append-drop i out)
 
 -- one entry is a store
 pub laid-one : (out : List ℕ) (i b : ℕ) → i < length out → set out i b ≡ laid out i (b ∷ [])

@@ -21,11 +21,11 @@ Unique {X} promise = (x y : X) → promise x → promise y → x ≡ y
 pub unique : {X : Type 0} (d : X) → Unique (λ x. x ≡ d)
 unique d x y p q = p ∙ sym q
 
-unique-pair : {A B : Type 0} (a : A) (b : B) → Unique (λ (x : A × B). (x .0 ≡ a) × (x .1 ≡ b))
+pub unique-pair : {A B : Type 0} (a : A) (b : B) → Unique (λ (x : A × B). (x .0 ≡ a) × (x .1 ≡ b))
 unique-pair a b x y p q = λ i. (unique a (x .0) (y .0) (p .0) (q .0) i, unique b (x .1) (y .1) (p .1) (q .1) i)
 
 -- and of one that speaks of an outcome in parts
-unique-parts : {X Y : Type 0} (promise : X → Type 0) (whole : Y → X) (parts : X → Y) → ((y : Y) → parts (whole y) ≡ y)
+pub unique-parts : {X Y : Type 0} (promise : X → Type 0) (whole : Y → X) (parts : X → Y) → ((y : Y) → parts (whole y) ≡ y)
     → Unique promise → Unique (λ y. promise (whole y))
 unique-parts promise whole parts back u x y p q = sym (back x) ∙ ap parts (u (whole x) (whole y) p q) ∙ back y
 

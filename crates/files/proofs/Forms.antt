@@ -1,0 +1,224 @@
+-- Laws of forms: which rows a file can hold, when a line is the first bad one, and that a file has one form.
+-- Assumes nothing.
+use Prim.Native.Nat.{ℕ, zero, suc, _+_, _*_, _%_, _<_, _≤_}
+use native.Mathlib.Omega.{arith}
+use native.Mathlib.Numerals.{add-one}
+use mathlib.Core.Path.{_≡_, refl, sym, ap, _∙_, subst}
+use mathlib.Core.Logic.{_⊎_, inl, inr, ⊎-elim}
+use mathlib.Core.Bool.{Bool, true, false, _&&_, not}
+use mathlib.Core.List.{List, [], _∷_, _++_, append-nil}
+use lib.ListN.{length, getD, take, drop, take-append-drop, drop-of-length-le, length-drop}
+use lib.Seq.{take-at, drop-at, take-append-le, take-take, take-add, take-nil, take-length, drop-cons, length-take-le}
+use lib.Dec.{T, ltb, leb, eqb, leb→le, eqb→eq}
+use borrow.Author.Tests.{ltb-false, le-ltb, eqb-true}
+use Rattle.meaning.specs.Lists.{some}
+use Rattle.meaning.specs.Table.{rows, mostRows, lengthAllowed}
+use Rattle.meaning.proofs.Bools.{and-l, and-r, and-i, or-none-l, or-none-r, not-e, not-false, is-false, lt-or-ge, truly}
+use Rattle.decimal.specs.Decimal.{ascii, digits, mostNumber}
+use Rattle.files.specs.Files.{line, key, numberLines, tableLines, joined, bytesOf, linesOf, holdable, Form, good, bad, Begins, HasForm}
+use Rattle.files.specs.Parts.{keyed, linesBefore, Passed}
+use Rattle.files.proofs.Lines.{keyed-number, lines-line, lines-before, all-before, joined-lines, table-lines, numbers-same, drop-numbers, take-numbers, length-numbers}
+
+-- ---- rows that a file can hold
+
+-- how many numbers and rows are allowed
+pub allowed-rows : (t : List ℕ) → T (lengthAllowed t) → (length t ≡ 4 * rows t) × (0 < rows t) × (rows t ≤ mostRows)
+unfolding lengthAllowed
+allowed-rows t l =
+    let a : T (eqb (length t % 4) 0) = search (and-l, and-r) in
+    let b : T (leb 1 (rows t)) = search (and-l, and-r) in
+    let c : T (leb (rows t) mostRows) = search (and-l, and-r) in
+    let e : length t % 4 ≡ 0 = eqb→eq (length t % 4) 0 a in
+    (omega arith, leb→le 1 (rows t) b, leb→le (rows t) mostRows c)
+
+module _ (t : List ℕ) (h : T (holdable t)) where
+  pub holdable-length : T (lengthAllowed t)
+  unfolding holdable
+  holdable-length = and-l (lengthAllowed t) (not (some (ltb mostNumber) t)) h
+
+  pub holdable-none : some (ltb mostNumber) t ≡ false
+  unfolding holdable
+  holdable-none = is-false (some (ltb mostNumber) t) (not-e (some (ltb mostNumber) t) (and-r (lengthAllowed t) (not (some (ltb mostNumber) t)) h))
+
+  pub holdable-rows : (length t ≡ 4 * rows t) × (0 < rows t) × (rows t ≤ mostRows)
+  holdable-rows = allowed-rows t holdable-length
+
+-- no number is above the largest
+pub none-above : (t : List ℕ) → some (ltb mostNumber) t ≡ false → (i : ℕ) → getD t i 0 ≤ mostNumber
+unfolding some
+none-above [] h i = omega arith
+none-above (n ∷ t) h zero = ltb-false mostNumber n (or-none-l (ltb mostNumber n) (some (ltb mostNumber) t) h)
+none-above (n ∷ t) h (suc i) = none-above t (or-none-r (ltb mostNumber n) (some (ltb mostNumber) t) h) i
+
+pub above-none : (t : List ℕ) → ((i : ℕ) → i < length t → getD t i 0 ≤ mostNumber) → some (ltb mostNumber) t ≡ false
+unfolding some
+above-none [] h = refl
+above-none (n ∷ t) h = rw (le-ltb mostNumber n (h 0 (omega arith)), above-none t (λ i l. h (suc i) (omega arith)))
+
+-- rows with a length that is allowed and numbers that fit can be held
+pub holdable-from : (t : List ℕ) → T (lengthAllowed t) → ((i : ℕ) → i < length t → getD t i 0 ≤ mostNumber) → T (holdable t)
+unfolding holdable
+holdable-from t h k = and-i (lengthAllowed t) (not (some (ltb mostNumber) t)) h (rw (above-none t k) tt)
+
+-- ---- the first bad line
+
+-- what begins with a line begins with its bytes
+first-line : (s l : List ℕ) → take 1 (linesOf s) ≡ l ∷ [] → s ≡ l ++ joined (drop 1 (linesOf s))
+unfolding joined
+first-line s l e =
+    sym (joined-lines s)
+    ∙ ap joined (sym (take-append-drop 1 (linesOf s)))
+    ∙ ap (λ (ls : List (List ℕ)). joined (ls ++ drop 1 (linesOf s))) e
+
+-- what has no first line is empty
+no-line : (s : List ℕ) → take 1 (linesOf s) ≡ [] → s ≡ []
+unfolding joined
+no-line s e = sym (joined-lines s) ∙ ap joined (none (linesOf s) e)
+  where
+    none : (ls : List (List ℕ)) → take 1 ls ≡ [] → ls ≡ []
+    none [] e = refl
+    none (l ∷ ls) e = cc
+
+-- the entry behind the first k of a longer front
+behind-front : (k : ℕ) (ls : List (List ℕ)) → drop k (take (k + 1) ls) ≡ take 1 (drop k ls)
+behind-front k ls = rw add-one (go k ls)
+  where
+    go : (k : ℕ) (ls : List (List ℕ)) → drop k (take (suc k) ls) ≡ take 1 (drop k ls)
+    go zero ls = refl
+    go (suc k) [] = refl
+    go (suc k) (l ∷ ls) = go k ls
+
+-- the lines before the k-th begin some file, and what follows begins no file with these: line k + 1 is the first bad one
+pub parts : (file s : List ℕ) (before : List (List ℕ)) (k : ℕ) → length before ≡ k → linesOf file ≡ before ++ linesOf s
+    → (t : List ℕ) → T (holdable t) → take k (tableLines t) ≡ before
+    → ((t : List ℕ) → T (holdable t) → take k (tableLines t) ≡ before → take 1 (linesOf s) ≡ take 1 (drop k (tableLines t)) → ⊥)
+    → HasForm file (bad (k + 1))
+unfolding HasForm
+parts file s before k n e t h b refuse = (begins, stops)
+  where
+    begins : (j : ℕ) → j < k + 1 → Begins file j
+    begins j l =
+        let a : take j (linesOf file) ≡ take j before = rw e (take-append-le j before (linesOf s) (omega arith)) in
+        (t, h, a ∙ ap (λ (ls : List (List ℕ)). take j ls) (sym b) ∙ take-take j k (tableLines t) (omega arith))
+
+    front : take k (linesOf file) ≡ before
+    front = rw e (take-at before (linesOf s) k n)
+
+    rest : drop k (linesOf file) ≡ linesOf s
+    rest = rw e (drop-at before (linesOf s) k n)
+
+    stops : Begins file (k + 1) → ⊥
+    stops (u, g, d) =
+        let a : take k (tableLines u) ≡ before =
+        sym (take-take k (k + 1) (tableLines u) (omega arith)) ∙ ap (λ (ls : List (List ℕ)). take k ls) (sym d) ∙ take-take k (k + 1) (linesOf file) (omega arith) ∙ front in
+        let c : take 1 (linesOf s) ≡ take 1 (drop k (tableLines u)) =
+        ap (λ (ls : List (List ℕ)). take 1 ls) (sym rest) ∙ sym (behind-front k (linesOf file)) ∙ ap (λ (ls : List (List ℕ)). drop k ls) d ∙ behind-front k (tableLines u) in
+        refuse u g a c
+
+-- a root alone can be held: some file begins with what every file begins with
+least : List ℕ
+least = 0 ∷ 0 ∷ 0 ∷ 0 ∷ []
+
+least-holdable : T (holdable least)
+unfolding least holdable lengthAllowed some
+least-holdable = tt
+
+-- line 1 is bad where the file does not begin with it
+pub bad-first : (file : List ℕ) → ((rest : List ℕ) → file ≡ line "edition" 1 ++ rest → ⊥) → HasForm file (bad 1)
+bad-first file refuse =
+    parts file file [] 0 refl refl least least-holdable refl (λ t h b e. refuse (joined (drop 1 (linesOf file))) (first-line file (line "edition" 1) e))
+
+-- line 2 is bad where no count of rows in the limits stands there
+pub bad-second : (file s : List ℕ) → file ≡ line "edition" 1 ++ s
+    → ((n : ℕ) (rest : List ℕ) → 0 < n → n ≤ mostRows → s ≡ line "nodes" n ++ rest → ⊥) → HasForm file (bad 2)
+unfolding line some
+bad-second file s e refuse =
+    parts file s (line "edition" 1 ∷ []) 1 refl (rw e (lines-line (ascii "edition=") 1 s refl)) least least-holdable refl
+    (λ t h b c.
+    let r = holdable-rows t h in
+    refuse (rows t) (joined (drop 1 (linesOf s))) (r .1) (r .2) (first-line s (line "nodes" (rows t)) c))
+
+-- ---- the lines of numbers
+
+-- before the line of number i stand i + 2
+length-before : (i : ℕ) (t : List ℕ) → i ≤ length t → length (linesBefore i t) ≡ i + 2
+length-before i t h = let e : length (numberLines 0 (take i t)) ≡ i = length-numbers 0 (take i t) ∙ length-take-le i t h in omega arith
+
+two-more : (i : ℕ) → i + 2 ≡ suc (suc i)
+two-more i = omega arith
+
+take-lines : (i : ℕ) (t : List ℕ) → take (i + 2) (tableLines t) ≡ linesBefore i t
+take-lines i t = rw (two-more i, take-numbers i 0 t)
+
+drop-lines : (i : ℕ) (t : List ℕ) → drop (i + 2) (tableLines t) ≡ numberLines i (drop i t)
+drop-lines i t = let e : 0 + i ≡ i = omega arith in rw (two-more i, drop-numbers i 0 t, e)
+
+-- rows whose first lines are the same have the same count
+same-length : (i : ℕ) (t u : List ℕ) → T (holdable t) → T (holdable u) → take (i + 2) (tableLines u) ≡ linesBefore i t → length u ≡ length t
+unfolding line
+same-length i t u h g e =
+    let k : linesBefore i u ≡ linesBefore i t = sym (take-lines i u) ∙ e in
+    let l : line "nodes" (rows u) ≡ line "nodes" (rows t) = cc in
+    let n : rows u ≡ rows t = keyed-number (ascii "nodes=") (rows u) (rows t) [] [] (ap (λ (l : List ℕ). l ++ []) l) in
+    let a = holdable-rows t h in
+    let b = holdable-rows u g in
+    omega arith
+
+module _ (file : List ℕ) (at i : ℕ) (t : List ℕ) (p : Passed file at i t) where
+  lines-passed : linesOf file ≡ linesBefore i t ++ linesOf (drop at file)
+  lines-passed = ap linesOf (p .passed) ∙ lines-before i t (drop at file)
+
+  -- the line of number i is bad where no number stands there
+  pub bad-number : i < length t → ((n : ℕ) (rest : List ℕ) → n ≤ mostNumber → drop at file ≡ line (key i) n ++ rest → ⊥) → HasForm file (bad (i + 3))
+  unfolding numberLines
+  bad-number h refuse =
+      let e : i + 3 ≡ i + 2 + 1 = omega arith in
+      rw e
+      (parts file (drop at file) (linesBefore i t) (i + 2) (length-before i t (omega arith)) lines-passed t (p .holds) (take-lines i t)
+      (λ u g b c.
+      let l : length u ≡ length t = same-length i t u (p .holds) g b in
+      let d : take 1 (drop (i + 2) (tableLines u)) ≡ line (key i) (getD u i 0) ∷ [] = rw (drop-lines i u, drop-cons u i 0 (omega arith)) in
+      refuse (getD u i 0) (joined (drop 1 (linesOf (drop at file)))) (none-above u (holdable-none u g) i)
+      (first-line (drop at file) (line (key i) (getD u i 0)) (c ∙ d))))
+
+  -- the line behind those of all numbers is bad where the file goes on
+  pub bad-last : i ≡ length t → at < length file → HasForm file (bad (i + 3))
+  unfolding numberLines
+  bad-last h l =
+      let e : i + 3 ≡ i + 2 + 1 = omega arith in
+      rw e
+      (parts file (drop at file) (linesBefore i t) (i + 2) (length-before i t (omega arith)) lines-passed t (p .holds) (take-lines i t)
+      (λ u g b c.
+      let k : length u ≡ length t = same-length i t u (p .holds) g b in
+      let d : take 1 (drop (i + 2) (tableLines u)) ≡ [] = rw (drop-lines i u, drop-of-length-le u {i = i} (omega arith)) in
+      let n : length (drop at file) ≡ 0 = ap length (no-line (drop at file) (c ∙ d)) in
+      omega (arith, simp length-drop at n)))
+
+  -- and the file is good where it ends there
+  pub good-file : i ≡ length t → length file ≤ at → HasForm file (good t)
+  unfolding HasForm bytesOf
+  good-file h l = (
+    p .holds,
+    p .passed ∙ rw (drop-of-length-le file l, h, append-nil (joined (linesBefore (length t) t))) (ap joined (all-before t)),
+  )
+
+-- ---- a file has one form
+
+-- tables with the same bytes are the same
+pub bytes-same : (t u : List ℕ) → bytesOf t ≡ bytesOf u → t ≡ u
+bytes-same t u e =
+    let l : tableLines t ≡ tableLines u = sym (table-lines t) ∙ ap linesOf e ∙ table-lines u in
+    numbers-same 0 t u (cc)
+
+-- a good file parts from no line of its own
+good-begins : (file t : List ℕ) (k : ℕ) → HasForm file (good t) → Begins file k
+unfolding HasForm
+good-begins file t k (h, e) = (t, h, ap (λ (ls : List (List ℕ)). take k ls) (ap linesOf e ∙ table-lines t))
+
+pub form-unique : (file : List ℕ) (a b : Form) → HasForm file a → HasForm file b → a ≡ b
+unfolding HasForm
+form-unique file (good t) (good u) h k = ap good (bytes-same t u (sym (h .1) ∙ k .1))
+form-unique file (good t) (bad k) h (begins, stops) = absurd (stops (good-begins file t k h))
+form-unique file (bad k) (good t) (begins, stops) h = absurd (stops (good-begins file t k h))
+form-unique file (bad j) (bad k) (begins, stops) (begins', stops') =
+    ⊎-elim (λ (l : j < k). absurd (stops (begins' j l))) (λ (l : k ≤ j). ⊎-elim (λ (m : k < j). absurd (stops' (begins k m))) (λ (m : j ≤ k). ap bad (omega arith)) (lt-or-ge k j)) (lt-or-ge j k)

@@ -1,0 +1,9 @@
+pub mod Lines
+pub mod Forms
+mod Keyed
+mod Heads
+mod Outcome
+mod Passing
+mod Written
+pub mod Unique
+pub mod RoundTrips

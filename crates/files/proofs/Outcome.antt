@@ -1,0 +1,79 @@
+-- What the reader and the writer answer and leave in their outputs, check by check, stated over what code has found.
+-- Assumes nothing.
+use Prim.Native.Nat.{ℕ, _<_, _≤_}
+use native.Mathlib.Omega.{arith}
+use mathlib.Core.Path.{_≡_, refl, sym, ap, _∙_}
+use mathlib.Core.List.{List, _++_}
+use lib.ListN.{length, drop}
+use borrow.Author.Tests.{lt-ltb, le-ltb, eq-eqb, ne-eqb}
+use Rattle.meaning.specs.Answers.{answer, tableAnswer, tableChecks, output}
+use Rattle.meaning.specs.declared.Answer.{Answer}
+use Rattle.meaning.proofs.Checks.{table-passes, table-stops}
+use Rattle.files.specs.Files.{bytesOf, good, bad, HasForm}
+use Rattle.files.specs.Answers.{needs, reading, rowsIn, writing, ReadsTable}
+
+-- an answer, and an output that has what was to be written exactly if the answer's number is 0
+abbrev pub Answered : Answer → List ℕ → List ℕ → ℕ → ℕ → List ℕ → Type 0
+Answered a front out number place out' = (answer number place ≡ a) × (out' ≡ output (answer number place) front out)
+
+module _ (a : Answer) (front out : List ℕ) (number place : ℕ) (e : answer number place ≡ a) where
+  -- a number that is not 0 leaves the output as it was
+  pub refuses : (number ≡ 0 → ⊥) → Answered a front out number place out
+  unfolding output
+  refuses n = (e, rw (ne-eqb number 0 n))
+
+  pub writes : (out' : List ℕ) → number ≡ 0 → out' ≡ front ++ drop (length front) out → Answered a front out number place out'
+  unfolding output
+  writes out' z w = (e, w ∙ rw (eq-eqb number 0 z))
+
+-- the same number and place are the same answer
+pub same-answer : {n m p q : ℕ} → n ≡ m → p ≡ q → answer n p ≡ answer m q
+same-answer e f = λ i. answer (e i) (f i)
+
+-- the amount that is needed is there, or not
+pub enough : (amount room : ℕ) (next : Answer) → amount ≤ room → needs amount room next ≡ next
+enough amount room next h = rw (le-ltb room amount h)
+
+pub short : (amount room : ℕ) (next : Answer) → room < amount → needs amount room next ≡ answer 21 amount
+short amount room next h = rw (lt-ltb room amount h)
+
+-- ---- the reader
+
+pub reads-bad : (file out : List ℕ) (k : ℕ) → HasForm file (bad k) → (number place : ℕ) → number ≡ 20 → place ≡ k → ReadsTable file out (answer number place) out
+unfolding reading
+reads-bad file out k h number place n p =
+    let r = refuses (reading (bad k) (length out)) (rowsIn (bad k)) out number place (same-answer n p) (λ z. omega arith) in
+    (bad k, h, r .0, r .1)
+
+pub reads-good : (file t out : List ℕ) → HasForm file (good t) → (number place : ℕ) (out' : List ℕ) → Answered (reading (good t) (length out)) t out number place out' → ReadsTable file out (answer number place) out'
+unfolding rowsIn
+reads-good file t out h number place out' r = (good t, h, r .0, r .1)
+
+module _ (t : List ℕ) (room : ℕ) where
+  pub read-short : room < length t → answer 21 (length t) ≡ reading (good t) room
+  unfolding reading
+  read-short h = sym (short (length t) room (tableChecks t (answer 0 (length t))) h)
+
+  pub read-broken : length t ≤ room → (tableAnswer t .number ≡ 0 → ⊥) → tableAnswer t ≡ reading (good t) room
+  unfolding reading
+  read-broken h f = sym (enough (length t) room (tableChecks t (answer 0 (length t))) h ∙ table-stops t f (answer 0 (length t)))
+
+  pub read-whole : length t ≤ room → tableAnswer t .number ≡ 0 → answer 0 (length t) ≡ reading (good t) room
+  unfolding reading
+  read-whole h z = sym (enough (length t) room (tableChecks t (answer 0 (length t))) h ∙ table-passes t z (answer 0 (length t)))
+
+  -- ---- the writer
+
+  pub write-broken : (tableAnswer t .number ≡ 0 → ⊥) → tableAnswer t ≡ writing t room
+  unfolding writing
+  write-broken f = sym (table-stops t f (needs (length (bytesOf t)) room (answer 0 (length (bytesOf t)))))
+
+  pub write-short : tableAnswer t .number ≡ 0 → room < length (bytesOf t) → answer 21 (length (bytesOf t)) ≡ writing t room
+  unfolding writing
+  write-short z h =
+      sym (table-passes t z (needs (length (bytesOf t)) room (answer 0 (length (bytesOf t)))) ∙ short (length (bytesOf t)) room (answer 0 (length (bytesOf t))) h)
+
+  pub write-whole : tableAnswer t .number ≡ 0 → length (bytesOf t) ≤ room → answer 0 (length (bytesOf t)) ≡ writing t room
+  unfolding writing
+  write-whole z h =
+      sym (table-passes t z (needs (length (bytesOf t)) room (answer 0 (length (bytesOf t)))) ∙ enough (length (bytesOf t)) room (answer 0 (length (bytesOf t))) h)

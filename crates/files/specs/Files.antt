@@ -1,0 +1,72 @@
+-- Table files (document 02, W-201): key=value lines in a fixed order, each ended by one line feed. One definition, the bytes of a table, says
+-- what a good file is, and so which line of another is the first bad one.
+-- Assumes nothing: these are definitions.
+use Prim.Native.Nat.{ℕ, _+_, _%_, _<_}
+use Prim.Native.String.{String}
+use mathlib.Core.Path.{_≡_}
+use mathlib.Core.Bool.{Bool, _&&_, not, cond}
+use mathlib.Core.List.{List, [], _∷_, _++_}
+use lib.ListN.{take}
+use lib.Dec.{T, ltb, eqb}
+use Rattle.meaning.specs.Lists.{some}
+use Rattle.meaning.specs.Table.{rows, lengthAllowed}
+use Rattle.decimal.specs.Decimal.{ascii, digits, mostNumber}
+
+-- ---- the bytes of a table
+
+-- a line: key=value, ended by one line feed
+unfoldable pub line : String → ℕ → List ℕ
+line key n = ascii key ++ ascii "=" ++ digits n ++ ascii "\n"
+
+-- the key of number i of a table: kind, name, parent and size in turn
+unfoldable pub key : ℕ → String
+key i = cond (eqb (i % 4) 0) "kind" (cond (eqb (i % 4) 1) "name" (cond (eqb (i % 4) 2) "parent" "size"))
+
+-- the lines of a table's numbers, from number i on
+unfoldable pub numberLines : ℕ → List ℕ → List (List ℕ)
+numberLines i [] = []
+numberLines i (n ∷ more) = line (key i) n ∷ numberLines (i + 1) more
+
+-- the lines of a table: edition=1, nodes=, then kind=, name=, parent= and size= of each row
+abbrev pub tableLines : List ℕ → List (List ℕ)
+tableLines t = line "edition" 1 ∷ (line "nodes" (rows t) ∷ numberLines 0 t)
+
+-- lines one behind the other
+unfoldable pub joined : List (List ℕ) → List ℕ
+joined [] = []
+joined (l ∷ more) = l ++ joined more
+
+unfoldable pub bytesOf : List ℕ → List ℕ
+bytesOf t = joined (tableLines t)
+
+-- ---- the lines of a file
+
+-- a byte in front of the first line
+unfoldable pub onto : ℕ → List (List ℕ) → List (List ℕ)
+onto b [] = (b ∷ []) ∷ []
+onto b (l ∷ more) = (b ∷ l) ∷ more
+
+-- the lines of a file, each with the line feed that ends it; bytes behind the last line feed are an unended line
+unfoldable pub linesOf : List ℕ → List (List ℕ)
+linesOf [] = []
+linesOf (b ∷ s) = cond (eqb b 10) ((b ∷ []) ∷ linesOf s) (onto b (linesOf s))
+
+-- ---- good files and bad lines
+
+-- rows that a file can hold: a count of rows in document 01's limits, and numbers up to 4,294,967,295
+unfoldable pub holdable : List ℕ → Bool
+holdable t = lengthAllowed t && not (some (ltb mostNumber) t)
+
+-- a file is either good, and holds these rows, or has this first bad line
+pub data Form : Type 0 where
+  good : List ℕ → Form
+  bad : ℕ → Form
+
+-- do the first k lines of a file begin the file of some rows?
+abbrev pub Begins : List ℕ → ℕ → Type 0
+Begins file k = (t : List ℕ) × T (holdable t) × (take k (linesOf file) ≡ take k (tableLines t))
+
+-- a file is good if it is the bytes of some rows; the first bad line is the first one at which it parts from every such file
+unfoldable pub HasForm : List ℕ → Form → Type 0
+HasForm file (good t) = T (holdable t) × (file ≡ bytesOf t)
+HasForm file (bad k) = ((j : ℕ) → j < k → Begins file j) × (Begins file k → ⊥)
