@@ -1,9 +1,10 @@
 /* bargetulip.h: the proved XPath 1.0 checker, called from C.
  *
- * Six functions over plain numbers: two checkers, the place of a node on an
- * axis of another, an evaluator, a path turner and a view of an answer inside
- * one subtree. What a table, a path and an answer are is said below as far as
- * a caller needs it; documents 01 and 02 of the project are the definition.
+ * Eight functions over plain numbers and bytes: two checkers, the place of a
+ * node on an axis of another, an evaluator, a path turner, a view of an answer
+ * inside one subtree, and a reader and a writer of table files. What a table, a
+ * table file, a path and an answer are is said below as far as a caller needs
+ * it; documents 01 and 02 of the project are the definition.
  * Link with libcapi.a (made by `rt staticlib capi`) on x86-64 Linux, and with
  * -lm.
  *
@@ -16,6 +17,15 @@
  * The root has one element child and no text child, and no text directly
  * follows a text sibling: a second element and such texts are broken rows.
  * Row 0 is broken if there is no row of kind 1.
+ *
+ * A table file is a node table as text, in memory that the caller lends: lines
+ * key=value, each ended by one line feed, exactly these in this order:
+ *   edition=1
+ *   nodes=  the number of rows, 1 to 4,096
+ *   kind=, name=, parent=, size=  a line each, for each row
+ * A value is a decimal up to 4,294,967,295 without leading zeros, sign or space.
+ * Reading what was written gives the same table, and writing what was read the
+ * same file, byte for byte.
  *
  * A path is 5 numbers a row (op, a, b, c, d), 1 to 256 rows. A link is a row
  * number plus one and names a lower row; 0 is no link. Every row but the last
@@ -44,21 +54,22 @@
  * Literals are finite doubles with a clear sign bit, at most 64 of them.
  *
  * Rules for every call
- *   - Lengths count numbers (uint32_t or double), not rows and not bytes.
+ *   - Lengths count numbers (uint32_t or double), not rows and not bytes; the
+ *     length of a uint8_t slice counts bytes.
  *   - Every pointer must be non-null and aligned for its type, even where its
  *     length is 0 (nothing is then read or written through it).
  *   - What a function writes (out, place, begin, count) must overlap neither
- *     each other nor what it reads (table, path, literals, list).
+ *     each other nor what it reads (table, path, literals, list, file).
  *     What it only reads may overlap freely and is never changed.
  *   - Nothing is kept after the call: the caller owns all memory.
- *   - No heap, no globals, no locks, no files: the functions are reentrant and
- *     may run in any number of threads.
+ *   - No heap, no globals, no locks, and no file is opened: the functions are
+ *     reentrant and may run in any number of threads.
  *   - They always return, but the time of an evaluation is not bounded yet:
  *     counts of paths and steps that count positions, nested in each other,
  *     take a power of the rows for each nesting.
  *   - A stack of 1 MiB is enough for every input.
- *   - Any content is allowed: damaged tables, paths, literals and lists are
- *     refused with a number and a place, never undefined behaviour.
+ *   - Any content is allowed: damaged tables, paths, literals, lists and files
+ *     are refused with a number and a place, never undefined behaviour.
  */
 #ifndef BARGETULIP_H
 #define BARGETULIP_H
@@ -70,10 +81,12 @@
 extern "C" {
 #endif
 
-/* The numbers given back. Checks run in this order and the first that applies
- * is returned; *place is always written and means what the comment says. */
+/* The numbers given back. Checks run in this order, but for the reader and the
+ * writer of table files, which say their own, and the first that applies is
+ * returned; *place is always written and means what the comment says. */
 enum {
-    BT_DONE = 0,          /* done: nodes or rows written (checkers: row count) */
+    BT_DONE = 0,          /* done: nodes or rows written (checkers: row count;
+                             files: numbers or bytes written) */
     BT_TABLE_LENGTH = 1,  /* table length not 4 to 16,384 or not a multiple of 4: 0 */
     BT_TABLE_ROW = 2,     /* broken table row: the lowest one */
     BT_PATH_LENGTH = 3,   /* path length not 5 to 1,280 or not a multiple of 5: 0 */
@@ -86,8 +99,11 @@ enum {
     BT_COUNTS = 9,        /* turning: a step counts positions: its number from 1,
                              the first such */
     BT_ABSOLUTE = 10,     /* turning: the path is absolute: 0 */
-    BT_TURN_ROOM = 11     /* turning: rows + 1 above 256, or out shorter than
+    BT_TURN_ROOM = 11,    /* turning: rows + 1 above 256, or out shorter than
                              5 * (rows + 1): rows + 1 */
+    BT_FILE_LINE = 20,    /* reading: a bad line: the first one's number from 1 */
+    BT_FILE_ROOM = 21     /* files: out too short: the numbers (reading) or
+                             bytes (writing) that are needed in all */
 };
 
 /* The largest table, path, literal list and nesting that are accepted. */
@@ -147,6 +163,26 @@ uint32_t bt_turn(const uint32_t *path, size_t path_len,
 void bt_view(const uint32_t *table, size_t table_len,
              const uint32_t *list, size_t list_len,
              uint32_t node, size_t *begin, size_t *count);
+
+/* Reads a table file. Its *place and the writer's are a uint64_t.
+ * Returns 0, 20, 21 or 2, checked in the order 20, 21, 2: the form of the whole
+ * file, room for its numbers, then the rows by the rules of bt_check_table.
+ * On 0 the table stands in out[0 .. *place - 1], 4 numbers a row, and the rest
+ * of out is unchanged. On every other number out is unchanged. *place: 4 times
+ * the file's nodes (0 and 21), the lowest broken row (2), the first bad line's
+ * number from 1 (20). A line that is missing has the number that it would have,
+ * and the first of those too many is bad; so are a nodes line outside 1 to
+ * 4,096 and bytes behind the last line feed. */
+uint32_t bt_read_table(const uint8_t *file, size_t file_len,
+                       uint32_t *out, size_t out_len, uint64_t *place);
+
+/* Writes an accepted table as a table file.
+ * Returns 0, 1, 2 or 21, checked in the order 1, 2, 21. On 0 the file stands in
+ * out[0 .. *place - 1] and the rest of out is unchanged. On every other number
+ * out is unchanged. *place: the file's bytes (0 and 21), 0 (1), the lowest
+ * broken row (2). A room of 21 bytes and 40 for each row is always enough. */
+uint32_t bt_write_table(const uint32_t *table, size_t table_len,
+                        uint8_t *out, size_t out_len, uint64_t *place);
 
 #ifdef __cplusplus
 }
