@@ -1,6 +1,6 @@
 /* compare.c: holds the archive to the independent reference on random inputs.
  *
- *   compare SEED COUNT [FIRST]   COUNT random inputs, all six functions each
+ *   compare SEED COUNT [FIRST]   COUNT random inputs, all eight functions each
  *   compare stress               the largest inputs, on a stack of 1 MiB
  *
  * Both sides get the same output slice, filled with the same random words and
@@ -9,16 +9,16 @@
  * difference is printed with its input and ends the program with status 1.
  */
 #include "bargetulip.h"
-#include "inputs.h"
+#include "compare_files.h"
+#include "harness.h"
 #include "reference.h"
 #include "stress.h"
 
 #include <stdio.h>
 #include <stdlib.h>
 #include <string.h>
-#include <sys/mman.h>
 
-enum { MARGIN = 16, OUT_ROOM = 4200, PAGE = 4096, FENCED = 32 * PAGE, AXES = 11, FEW_ROWS = 24 };
+enum { OUT_ROOM = 4200, FENCED = 32 * 4096, AXES = 11, FEW_ROWS = 24, NUMBERS = 12 };
 
 /* more work than this is left out: a few tens of milliseconds */
 static const uint64_t WORK_LIMIT = 6000000;
@@ -31,35 +31,19 @@ static const char *const names[FUNCTIONS] = {
 
 /* how often each function gave each number; for the view: 0 empty, 1 a part; for the places: on how many
  * axes there was one */
-static uint64_t seen[FUNCTIONS][12];
+static uint64_t seen[FUNCTIONS][NUMBERS];
 static uint64_t left_out;
 
 /* ---- inputs with a fence behind them ---- */
 
 struct fenced { const uint32_t *table, *path, *list; const double *literals; };
 
-/* memory whose last byte stands in front of a page that cannot be touched */
-static char *fenced_area(void)
-{
-    char *area = mmap(NULL, FENCED + PAGE, PROT_READ | PROT_WRITE, MAP_PRIVATE | MAP_ANONYMOUS, -1, 0);
-    if (area == MAP_FAILED || mprotect(area + FENCED, PAGE, PROT_NONE) != 0) {
-        puts("compare: no memory");
-        exit(2);
-    }
-    return area + FENCED;
-}
-
-static void *put(char *end, const void *from, size_t bytes)
-{
-    return memcpy(end - bytes, from, bytes);
-}
-
 static struct fenced fence(const struct input *in)
 {
     static char *ends[4];
     for (int i = 0; i < 4; i++)
         if (!ends[i])
-            ends[i] = fenced_area();
+            ends[i] = fenced_area(FENCED);
     struct fenced f = {
         put(ends[0], in->table, 4 * in->table_len), put(ends[1], in->path, 4 * in->path_len),
         put(ends[2], in->list, 4 * in->list_len), put(ends[3], in->literals, 8 * in->literals_len)
@@ -79,10 +63,8 @@ static void fill(struct result *result, uint64_t seed)
 {
     struct random random = {seed};
     memset(result, 0, sizeof *result);
-    for (int i = 0; i < 3; i++)
-        result->place[i] = any(&random);
-    for (size_t i = 0; i < MARGIN + OUT_ROOM + MARGIN; i++)
-        result->out[i] = any(&random);
+    fill_words(&random, result->place, 3);
+    fill_words(&random, result->out, MARGIN + OUT_ROOM + MARGIN);
 }
 
 typedef uint32_t place_function(const uint32_t *table, size_t table_len, uint32_t axis, uint32_t x, uint32_t y);
@@ -154,15 +136,6 @@ static void ask_archive(enum function f, const struct input *in, struct fenced p
 
 /* ---- a difference ---- */
 
-static void print_rows(const char *what, const uint32_t *numbers, size_t len, size_t width)
-{
-    printf("%s, %lu numbers:\n", what, (unsigned long)len);
-    for (size_t i = 0; i < len; i++)
-        printf("%s%u%s", i % width == 0 ? "(" : ",", numbers[i],
-               i + 1 == len || i % width == width - 1 ? ") " : "");
-    puts("");
-}
-
 static void print_literals(const struct input *in)
 {
     printf("literals, %lu:\n", (unsigned long)in->literals_len);
@@ -228,18 +201,6 @@ static bool inputs_kept(const struct input *in, struct fenced p)
            memcmp(in->literals, p.literals, 8 * in->literals_len) == 0;
 }
 
-/* a room for the output: exact, short by one, none, or more than enough */
-static size_t choose_room(struct random *random, enum function f, size_t needed)
-{
-    switch (below(random, 5)) {
-    case 0: return needed;
-    case 1: return needed > 0 ? needed - 1 : 0;
-    case 2: return f == TURN ? below(random, (uint32_t)needed + 1) : 0;
-    case 3: return needed + below(random, 40);
-    default: return OUT_ROOM - below(random, 50);
-    }
-}
-
 /* how many words the answer takes, or -1 if the work is too long */
 static long words_needed(enum function f, const struct input *in)
 {
@@ -264,7 +225,7 @@ static bool agree(enum function f, struct random *random, const struct input *in
         left_out++;
         return true;
     }
-    size_t room = choose_room(random, f, (size_t)needed);
+    size_t room = choose_room(random, (size_t)needed, OUT_ROOM, f == TURN);
     struct fenced pointers = fence(in);
     fill(&untouched, random->state);
     expected = found = untouched;
@@ -281,15 +242,21 @@ static bool agree(enum function f, struct random *random, const struct input *in
 
 static void print_summary(uint64_t cases)
 {
-    for (int f = 0; f < FUNCTIONS; f++) {
-        printf("%-15s", names[f]);
-        for (int n = 0; n < 12; n++)
-            if (seen[f][n] > 0)
-                printf("  %d:%lu", n, (unsigned long)seen[f][n]);
-        puts(f == VIEW ? "  (0 empty, 1 a part)" : f == PLACE ? "  (axes:times)" : "  (number:times)");
-    }
+    for (int f = 0; f < FUNCTIONS; f++)
+        print_seen(names[f], seen[f], NUMBERS,
+                   f == VIEW ? "0 empty, 1 a part" : f == PLACE ? "axes:times" : "number:times");
+    print_files_seen();
     printf("agreed: %lu inputs, %lu evaluations left out as too long\n",
            (unsigned long)cases, (unsigned long)left_out);
+}
+
+/* asks for the six functions over numbers, then for the two over files */
+static bool all_agree(struct random *random, const struct input *in)
+{
+    for (int f = 0; f < FUNCTIONS; f++)
+        if (!agree((enum function)f, random, in))
+            return false;
+    return files_agree(random, in);
 }
 
 static int compare(unsigned long seed, unsigned long count, unsigned long first)
@@ -298,11 +265,10 @@ static int compare(unsigned long seed, unsigned long count, unsigned long first)
     for (unsigned long n = first; n < first + count; n++) {
         struct random random = {(uint64_t)seed << 32 ^ n * 0x2545F4914F6CDD1Du};
         make_input(&random, &in);
-        for (int f = 0; f < FUNCTIONS; f++)
-            if (!agree((enum function)f, &random, &in)) {
-                printf("seed %lu, case %lu\n", seed, n);
-                return 1;
-            }
+        if (!all_agree(&random, &in)) {
+            printf("seed %lu, case %lu\n", seed, n);
+            return 1;
+        }
     }
     print_summary(count);
     return 0;

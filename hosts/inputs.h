@@ -14,7 +14,7 @@ enum { TABLE_ROOM = 4 * 4108, PATH_ROOM = 5 * 260, LITERAL_ROOM = 72, LIST_ROOM 
 
 struct random { uint64_t state; };
 
-/* one input for all six functions */
+/* one input for all functions; files are made from its table */
 struct input {
     uint32_t table[TABLE_ROOM], path[PATH_ROOM], list[LIST_ROOM];
     double literals[LITERAL_ROOM];

@@ -1,4 +1,4 @@
-/* stress.c: long, chained, deep and nested paths over 4,096 rows.
+/* stress.c: long, chained, deep and nested paths over 4,096 rows, and the longest files.
  *
  * Each case runs the archive in a thread whose stack is exactly 1 MiB, above a
  * page that cannot be touched, and compares the answers with the reference,
@@ -8,6 +8,7 @@
 #include "stress.h"
 
 #include "bargetulip.h"
+#include "files.h"
 #include "inputs.h"
 #include "reference.h"
 
@@ -200,14 +201,17 @@ static char *make_stack(void)
 }
 
 /* runs the archive on the small stack and gives back how much of it was used */
-static size_t on_small_stack(char *stack, struct job *job)
+static size_t on_small_stack(void *(*run)(void *), void *job)
 {
+    static char *stack;
     pthread_attr_t attributes;
     pthread_t thread;
     size_t unused = 0;
+    if (!stack)
+        stack = make_stack();
     memset(stack, PATTERN, STACK);
     if (pthread_attr_init(&attributes) != 0 || pthread_attr_setstack(&attributes, stack, STACK) != 0 ||
-        pthread_create(&thread, &attributes, run_archive, job) != 0 || pthread_join(thread, NULL) != 0) {
+        pthread_create(&thread, &attributes, run, job) != 0 || pthread_join(thread, NULL) != 0) {
         puts("stress: no thread");
         exit(2);
     }
@@ -222,25 +226,27 @@ static struct input in;
 static size_t most;
 static int differences;
 
+static void note(bool same, size_t used)
+{
+    most = used > most ? used : most;
+    differences += !same;
+}
+
 static void run_case(const char *what)
 {
-    static char *stack;
     static struct answers expected, found;
     struct job job = {&in, &found};
-    if (!stack)
-        stack = make_stack();
     memset(&expected, 0, sizeof expected);
     memset(&found, 0, sizeof found);
     run_reference(&in, &expected);
-    size_t used = on_small_stack(stack, &job);
+    size_t used = on_small_stack(run_archive, &job);
     if (expected.length == 0)
         found.begin = expected.begin;
     bool same = memcmp(&expected, &found, sizeof found) == 0;
     printf("%s  %-48s %4lu rows, evaluate %u/%u, turn %u/%u, stack %lu KiB\n", same ? "same" : "DIFFERENT",
            what, (unsigned long)(in.path_len / 5), found.evaluate, found.place[2], found.turn,
            found.place[3], (unsigned long)(used / 1024));
-    most = used > most ? used : most;
-    differences += !same;
+    note(same, used);
 }
 
 /* a table whose row 1 holds all rows behind it */
@@ -350,6 +356,110 @@ static void run_nested(void)
     run_case("counting steps nested 7 deep, below 224 nots");
 }
 
+/* ---- table files ---- */
+
+enum { LONG = 1000000 };
+
+static uint8_t file[FILE_BYTES(ROWS) + LONG];
+
+struct file_answers {
+    uint32_t read, write;
+    uint64_t read_place, write_place;
+    uint32_t numbers[4 * ROWS];
+    uint8_t bytes[FILE_BYTES(ROWS)];
+};
+
+struct file_job { size_t file_len; struct file_answers *answers; };
+
+static void *run_archive_on_file(void *argument)
+{
+    struct file_job *job = argument;
+    struct file_answers *a = job->answers;
+    a->read = bt_read_table(file, job->file_len, a->numbers, 4 * ROWS, &a->read_place);
+    a->write = bt_write_table(in.table, in.table_len, a->bytes, sizeof a->bytes, &a->write_place);
+    return NULL;
+}
+
+/* reads the file, which is the table's or is bad, and writes the table */
+static void run_file_case(const char *what, size_t file_len)
+{
+    static struct file_answers expected, found;
+    struct file_job job = {file_len, &found};
+    memset(&expected, 0, sizeof expected);
+    memset(&found, 0, sizeof found);
+    expected.read = ref_read_table(file, file_len, expected.numbers, 4 * ROWS, &expected.read_place);
+    expected.write = ref_write_table(in.table, in.table_len, expected.bytes, sizeof expected.bytes,
+                                     &expected.write_place);
+    size_t used = on_small_stack(run_archive_on_file, &job);
+    bool same = memcmp(&expected, &found, sizeof found) == 0;
+    if (found.read == 0 && memcmp(found.numbers, in.table, sizeof found.numbers) != 0)
+        same = false;
+    printf("%s  %-48s %7lu bytes, read %u/%lu, write %u/%lu, stack %lu KiB\n", same ? "same" : "DIFFERENT", what,
+           (unsigned long)file_len, found.read, (unsigned long)found.read_place, found.write,
+           (unsigned long)found.write_place, (unsigned long)(used / 1024));
+    note(same, used);
+}
+
+/* a random table of that shape and its file; gives back the file's length */
+static size_t random_file(enum shape shape)
+{
+    begin(shape, 0);
+    return file_of_rows(in.table, ROWS, file);
+}
+
+/* a chain of elements with the longest names: no accepted table has a longer file */
+static size_t longest_file(void)
+{
+    for (uint32_t i = 0; i < ROWS; i++) {
+        uint32_t numbers[4] = {1, 65535, i - 1, ROWS - 1 - i};
+        memcpy(in.table + 4 * i, numbers, sizeof numbers);
+    }
+    memset(in.table, 0, 3 * sizeof *in.table); /* the root's kind, name and parent */
+    in.table_len = 4 * ROWS;
+    return file_of_rows(in.table, ROWS, file);
+}
+
+/* gives the rows from one on the largest numbers */
+static void run_largest_numbers(const char *what, uint32_t first)
+{
+    begin(MIXED, 0);
+    for (uint32_t i = 4 * first; i < 4 * ROWS; i++)
+        in.table[i] = UINT32_MAX;
+    run_file_case(what, file_of_rows(in.table, ROWS, file));
+}
+
+/* the first bytes of the file, then a million of one kind and a line feed */
+static void run_long(const char *what, size_t kept, char byte)
+{
+    memset(file + kept, byte, LONG);
+    file[kept + LONG] = '\n';
+    run_file_case(what, kept + LONG + 1);
+}
+
+static void run_long_behind(const char *what, const char *text, char byte)
+{
+    memcpy(file, text, strlen(text));
+    run_long(what, strlen(text), byte);
+}
+
+static void run_files(void)
+{
+    run_file_case("file of a wide table, written and read back", random_file(WIDE));
+    run_file_case("file of a bushy table, written and read back", random_file(BUSHY));
+    run_largest_numbers("file with the largest numbers in every row", 0);
+    run_largest_numbers("file with the largest numbers in the last row", ROWS - 1);
+    run_file_case("the longest file, written and read back", longest_file());
+    run_long("a million line feeds behind the longest file", longest_file(), '\n');
+    run_long("a million digits in the longest file's last line", longest_file() - 1, '0');
+    run_long("a million letters", 0, 'e');
+    run_long("a million line feeds", 0, '\n');
+    run_long("a million digits", 0, '1');
+    run_long_behind("a million digits of the edition", "edition=1", '0');
+    run_long_behind("a million digits of nodes", "edition=1\nnodes=1", '0');
+    run_long_behind("a million digits of a kind", "edition=1\nnodes=4096\nkind=1", '0');
+    run_long_behind("a million zeros of a kind", "edition=1\nnodes=4096\nkind=", '0');
+}
+
 int stress(void)
 {
     run_steps();
@@ -357,6 +467,7 @@ int stress(void)
     run_operands();
     run_truths();
     run_nested();
+    run_files();
     printf("stress: %d different; most stack used %lu KiB of 1,024\n", differences, (unsigned long)(most / 1024));
     return differences != 0;
 }
