@@ -12,6 +12,7 @@
  */
 #include "documents.h"
 #include "engines.h"
+#include "timing.h"
 
 #include <stdbool.h>
 #include <stdio.h>
@@ -19,10 +20,9 @@
 #include <string.h>
 #include <sys/resource.h>
 #include <sys/wait.h>
-#include <time.h>
 #include <unistd.h>
 
-enum { SIZES = 4, ENGINES = 3, MAX_ROWS = 4096, SAMPLES = 31, ROUNDS = 9 };
+enum { SIZES = 4, ENGINES = 3, MAX_ROWS = 4096 };
 
 /* a cell that takes longer is run in one round alone */
 static const double QUICK = 0.005;
@@ -70,42 +70,6 @@ static double cap = 10;
 
 /* ---- one cell ---- */
 
-static double thread_time(void)
-{
-    struct timespec now;
-    clock_gettime(CLOCK_THREAD_CPUTIME_ID, &now);
-    return (double)now.tv_sec + (double)now.tv_nsec / 1e9;
-}
-
-static double time_runs(const struct engine *engine, void *state, long runs)
-{
-    double begin = thread_time();
-    for (long i = 0; i < runs; i++)
-        engine->run(state);
-    return (thread_time() - begin) / (double)runs;
-}
-
-static int ascending(const void *left, const void *right)
-{
-    double a = *(const double *)left, b = *(const double *)right;
-    return (a > b) - (a < b);
-}
-
-/* the median of samples of half a millisecond or one run each; fewer when runs are long */
-static double median_time(const struct engine *engine, void *state)
-{
-    double samples[SAMPLES], begin = thread_time();
-    double first = time_runs(engine, state, 1);
-    long runs = first > 0.0005 ? 1 : 1 + (long)(0.0005 / (first > 1e-8 ? first : 1e-8));
-    int count = 0;
-    if (first > 1)
-        return first;
-    while (count < SAMPLES && (count < 3 || thread_time() - begin < 0.3))
-        samples[count++] = time_runs(engine, state, runs);
-    qsort(samples, (size_t)count, sizeof *samples, ascending);
-    return count % 2 ? samples[count / 2] : (samples[count / 2 - 1] + samples[count / 2]) / 2;
-}
-
 /* one number for a list of nodes, to compare the engines' answers by */
 static uint64_t mark_of(const uint32_t *nodes, size_t count)
 {
@@ -129,7 +93,7 @@ static struct cell measure(const struct engine *engine, const struct question *q
     struct cell cell = {true, 0, 0, 0};
     void *state = engine->open(question);
     limit_time(cap + 5);
-    cell.seconds = median_time(engine, state);
+    cell.seconds = median_time(engine->run, state);
     limit_time(3 * cap + 10);
     cell.done = cell.seconds <= cap;
     cell.selected = engine->nodes(state, nodes);

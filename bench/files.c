@@ -1,0 +1,140 @@
+/* files.c: times our reader and writer of table files beside plain C loops.
+ *
+ *   files [SHAPE]   SHAPE: the file of that shape of document alone
+ *
+ * Writes Markdown: for each shape the speed on the file of 4,096 rows, in
+ * millions of the file's bytes a second, of reading and of writing. Ours
+ * checks the table each time. The plain loops (plain.c) don't; they are timed
+ * alone and with a call of bt_check_table. Each time is the least of nine
+ * medians, taken in rounds through all six.
+ */
+#include "bargetulip.h"
+#include "documents.h"
+#include "plain.h"
+#include "timing.h"
+
+#include <stdbool.h>
+#include <stdio.h>
+#include <stdlib.h>
+#include <string.h>
+
+enum { ROWS = 4096, NUMBERS = 4 * ROWS, FILE_ROOM = 18 * (2 + NUMBERS), WAYS = 3 };
+
+/* a table and its file, and what the last run wrote */
+struct state {
+    uint32_t table[NUMBERS], numbers[NUMBERS];
+    uint8_t file[FILE_ROOM], bytes[FILE_ROOM];
+    size_t file_len;
+};
+
+/* ---- what is timed ---- */
+
+static size_t read_ours(void *state)
+{
+    struct state *s = state;
+    uint64_t place;
+    return bt_read_table(s->file, s->file_len, s->numbers, NUMBERS, &place) == BT_DONE ? place : 0;
+}
+
+static size_t read_plain(void *state)
+{
+    struct state *s = state;
+    return plain_read(s->file, s->file_len, s->numbers, NUMBERS);
+}
+
+static size_t read_plain_and_check(void *state)
+{
+    struct state *s = state;
+    uint32_t place;
+    size_t read = read_plain(s);
+    return bt_check_table(s->numbers, read, &place) == BT_DONE ? read : 0;
+}
+
+static size_t write_ours(void *state)
+{
+    struct state *s = state;
+    uint64_t place;
+    return bt_write_table(s->table, NUMBERS, s->bytes, FILE_ROOM, &place) == BT_DONE ? place : 0;
+}
+
+static size_t write_plain(void *state)
+{
+    struct state *s = state;
+    return plain_write(s->table, NUMBERS, s->bytes, FILE_ROOM);
+}
+
+static size_t check_and_write_plain(void *state)
+{
+    struct state *s = state;
+    uint32_t place;
+    return bt_check_table(s->table, NUMBERS, &place) == BT_DONE ? write_plain(s) : 0;
+}
+
+/* reading and writing, each in three ways: ours, a plain loop, a plain loop and a check */
+static const struct task { const char *name; size_t (*run[WAYS])(void *state); } tasks[] = {
+    {"read", {read_ours, read_plain, read_plain_and_check}},
+    {"write", {write_ours, write_plain, check_and_write_plain}},
+};
+
+enum { TASKS = sizeof tasks / sizeof *tasks };
+
+/* ---- one shape ---- */
+
+/* whether a run gives the table of the file, or the file of the table */
+static bool is_right(const struct task *task, int way, struct state *s)
+{
+    memset(s->numbers, 0, sizeof s->numbers);
+    memset(s->bytes, 0, sizeof s->bytes);
+    size_t done = task->run[way](s);
+    if (task == &tasks[0])
+        return done == NUMBERS && memcmp(s->numbers, s->table, sizeof s->table) == 0;
+    return done == s->file_len && memcmp(s->bytes, s->file, s->file_len) == 0;
+}
+
+/* runs a way of a task once more and keeps the less of its times */
+static void run_again(const struct task *task, int way, struct state *s, double *seconds)
+{
+    double again = median_time(task->run[way], s);
+    if (*seconds == 0 || again < *seconds)
+        *seconds = again;
+}
+
+static void print_row(enum shape shape, const struct task *task, size_t file_len, const double *seconds)
+{
+    printf("| %s | %s | %lu |", shape_names[shape], task->name, (unsigned long)file_len);
+    for (int way = 0; way < WAYS; way++)
+        printf(" %.0f MB/s |", (double)file_len / seconds[way] / 1e6);
+    printf(" %.2f |\n", seconds[0] / seconds[WAYS - 1]);
+}
+
+/* times all ways of both tasks on the file of a shape; false if one of them is wrong */
+static bool run_shape(enum shape shape)
+{
+    static struct state s;
+    double seconds[TASKS][WAYS] = {{0}};
+    bool right = true;
+    memset(&s, 0, sizeof s);
+    build_table(shape, ROWS, s.table);
+    s.file_len = plain_write(s.table, NUMBERS, s.file, FILE_ROOM);
+    for (int i = 0; i < ROUNDS * TASKS * WAYS; i++) {
+        int task = i / WAYS % TASKS, way = i % WAYS;
+        right = is_right(&tasks[task], way, &s) && right;
+        run_again(&tasks[task], way, &s, &seconds[task][way]);
+    }
+    for (int task = 0; task < TASKS; task++)
+        print_row(shape, &tasks[task], s.file_len, seconds[task]);
+    return right;
+}
+
+int main(int argc, char **argv)
+{
+    bool right = true;
+    printf("\n### table files\n\n"
+           "| shape | | bytes | ours | plain C | plain C and bt_check_table | time: ours / plain C and check |\n"
+           "|---|---|--:|--:|--:|--:|--:|\n");
+    for (int shape = 0; shape < SHAPES; shape++)
+        if (argc < 2 || strcmp(argv[1], shape_names[shape]) == 0)
+            right = run_shape((enum shape)shape) && right;
+    puts(right ? "\nAll read the same numbers and wrote the same bytes." : "\nSome results differ.");
+    return !right;
+}
