@@ -3,24 +3,34 @@ use crate::show::Unit;
 use crate::show::write_answer;
 use crate::show::write_part;
 use crate::show::write_place;
+use basics::WideAnswer;
+use basics::told;
 use lines::output::UNTOUCHED;
+use lines::output::UNTOUCHED_BYTE;
+use lines::output::copy_bytes;
 use lines::output::front;
 use lines::read::count_of;
 use lines::read::number_at;
 use lines::read::read_numbers;
 use lines::read::small;
+use meaning::Answer;
 
 // The most entries of an output slice or of a list.
 const MOST_ENTRIES: usize = 4200;
 
+// An answer whose place has 32 bits, as one whose place has 64: they are shown alike.
+fn widened(answer: Answer) -> WideAnswer {
+    told(answer.number, answer.place as usize)
+}
+
 pub fn answer_check_table(line: &[u8], table: &[u32]) {
     let answer = table_check::check_table(table);
-    write_answer(line, answer, Unit::Row, 0, front(table, 0));
+    write_answer(line, widened(answer), Unit::Row, 0, front(table, 0));
 }
 
 pub fn answer_check_path(line: &[u8], path: &[u32], literals: &[f64]) {
     let answer = path_check::check_path(path, literals);
-    write_answer(line, answer, Unit::Row, 0, front(path, 0));
+    write_answer(line, widened(answer), Unit::Row, 0, front(path, 0));
 }
 
 // `place axis x y`
@@ -40,7 +50,13 @@ pub fn answer_evaluate(line: &[u8], at: usize, table: &[u32], path: &[u32], lite
     let room = count_of(size.value, MOST_ENTRIES);
     let out = &mut space[..room];
     let answer = select::evaluate(table, path, literals, small(start.value), out);
-    write_answer(line, answer, Unit::Node, answer.place as usize, out);
+    write_answer(
+        line,
+        widened(answer),
+        Unit::Node,
+        answer.place as usize,
+        out,
+    );
 }
 
 // `turn room`
@@ -50,7 +66,13 @@ pub fn answer_turn(line: &[u8], at: usize, path: &[u32], literals: &[f64]) {
     let room = count_of(size.value, MOST_ENTRIES);
     let out = &mut space[..room];
     let answer = turn::turn(path, literals, out);
-    write_answer(line, answer, Unit::Row, 5 * answer.place as usize, out);
+    write_answer(
+        line,
+        widened(answer),
+        Unit::Row,
+        5 * answer.place as usize,
+        out,
+    );
 }
 
 // `view node n ...`: where the part begins, and the part itself.
@@ -63,4 +85,33 @@ pub fn answer_view(line: &[u8], at: usize, table: &[u32]) {
     let entries = front(list, count);
     let ends = view::ends_of(table, entries, v);
     write_part(line, ends.begin, view::view(table, entries, v));
+}
+
+// `read_table room`
+pub fn answer_read_table(line: &[u8], at: usize, file: &[u8]) {
+    let size = number_at(line, at);
+    let mut space = [UNTOUCHED; MOST_ENTRIES];
+    let room = count_of(size.value, MOST_ENTRIES);
+    let out = &mut space[..room];
+    let answer = files::read_table(file, out);
+    write_answer(line, answer, Unit::Number, answer.place as usize, out);
+}
+
+// `write_table room`
+pub fn answer_write_table(line: &[u8], at: usize, table: &[u32]) {
+    let size = number_at(line, at);
+    let mut space = [UNTOUCHED_BYTE; MOST_ENTRIES];
+    let room = count_of(size.value, MOST_ENTRIES);
+    let out = &mut space[..room];
+    let answer = files::write_table(table, out);
+    let mut entry_space = [UNTOUCHED; MOST_ENTRIES];
+    let entries: &mut [u32] = &mut entry_space;
+    copy_bytes(out, entries);
+    write_answer(
+        line,
+        answer,
+        Unit::Byte,
+        answer.place as usize,
+        front(entries, room),
+    );
 }

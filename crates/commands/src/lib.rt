@@ -1,5 +1,5 @@
-// Commands, a line each: they set a table, a path and literals, and ask the library's public functions of them. The programs answer
-// the commands of their standard input (tools/vectors/README.md has the format). Lines cost no proof, however many there are.
+// Commands, a line each: they set a table, a path, literals and a file, and ask the library's public functions of them. The programs
+// answer the commands of their standard input (tools/vectors/README.md has the format). Lines cost no proof, however many there are.
 mod answer;
 mod show;
 
@@ -7,15 +7,19 @@ use answer::answer_check_path;
 use answer::answer_check_table;
 use answer::answer_evaluate;
 use answer::answer_place;
+use answer::answer_read_table;
 use answer::answer_turn;
 use answer::answer_view;
+use answer::answer_write_table;
 use libc::STDIN_FILENO;
 use lines::output::copy;
 use lines::output::front;
 use lines::output::written;
 use lines::read::behind;
+use lines::read::from;
 use lines::read::is_word;
 use lines::read::line_end;
+use lines::read::read_file;
 use lines::read::read_literals;
 use lines::read::read_numbers;
 use show::write_title;
@@ -27,12 +31,16 @@ enum Command {
     Literals,
     Path,
     Turned,
+    File,
+    Filed,
     CheckTable,
     CheckPath,
     Place,
     Evaluate,
     Turn,
     View,
+    ReadTable,
+    WriteTable,
     Unknown,
 }
 
@@ -51,6 +59,12 @@ fn command_of(line: &[u8]) -> Command {
     }
     if is_word(line, b"turned") {
         return Command::Turned;
+    }
+    if is_word(line, b"file") {
+        return Command::File;
+    }
+    if is_word(line, b"filed") {
+        return Command::Filed;
     }
     question_of(line)
 }
@@ -75,6 +89,12 @@ fn question_of(line: &[u8]) -> Command {
     if is_word(line, b"view") {
         return Command::View;
     }
+    if is_word(line, b"read_table") {
+        return Command::ReadTable;
+    }
+    if is_word(line, b"write_table") {
+        return Command::WriteTable;
+    }
     Command::Unknown
 }
 
@@ -87,15 +107,23 @@ const MOST_PATH: usize = 1300;
 
 const MOST_LITERALS: usize = 66;
 
-// The lengths of the current table, path and literals.
+const MOST_FILE: usize = 4200;
+
+// The lengths of the current table, path, literals and file.
 struct Lengths {
     table: usize,
     path: usize,
     literals: usize,
+    file: usize,
 }
 
 // The first n literals, or all where there are fewer.
 fn front_literals(s: &[f64], n: usize) -> &[f64] {
+    if n < s.len() { &s[..n] } else { s }
+}
+
+// The same of bytes.
+fn front_bytes(s: &[u8], n: usize) -> &[u8] {
     if n < s.len() { &s[..n] } else { s }
 }
 
@@ -108,6 +136,12 @@ fn take_turned(path: &mut [u32], length: usize, literals: &[f64]) -> usize {
     copy(front(out, count), path)
 }
 
+// The table becomes what reading the file gives, and empty where that is refused; its length.
+fn take_filed(file: &[u8], table: &mut [u32]) -> usize {
+    let answer = files::read_table(file, table);
+    written(answer.number, answer.place as usize)
+}
+
 // A line that asks: it is answered. A title is written as it is.
 fn answer_line(
     line: &[u8],
@@ -116,6 +150,7 @@ fn answer_line(
     table: &[u32],
     path: &[u32],
     literals: &[f64],
+    file: &[u8],
 ) {
     match command {
         Command::Title => write_title(line, at),
@@ -125,6 +160,8 @@ fn answer_line(
         Command::Evaluate => answer_evaluate(line, at, table, path, literals),
         Command::Turn => answer_turn(line, at, path, literals),
         Command::View => answer_view(line, at, table),
+        Command::ReadTable => answer_read_table(line, at, file),
+        Command::WriteTable => answer_write_table(line, at, table),
         _ => {}
     }
 }
@@ -136,6 +173,7 @@ fn run_line(
     table: &mut [u32],
     path: &mut [u32],
     literals: &mut [f64],
+    file: &mut [u8],
 ) -> Lengths {
     let mut next = lengths;
     let at = behind(line, b' ');
@@ -144,6 +182,8 @@ fn run_line(
         Command::Table => next.table = read_numbers(line, at, table),
         Command::Path => next.path = read_numbers(line, at, path),
         Command::Literals => next.literals = read_literals(line, at, literals),
+        Command::File => next.file = read_file(from(line, at), file),
+        Command::Filed => next.table = take_filed(front_bytes(file, lengths.file), table),
         Command::Turned => {
             next.path = take_turned(
                 path,
@@ -158,6 +198,7 @@ fn run_line(
             front(table, lengths.table),
             front(path, lengths.path),
             front_literals(literals, lengths.literals),
+            front_bytes(file, lengths.file),
         ),
     }
     next
@@ -167,18 +208,21 @@ fn run_lines(text: &[u8]) {
     let mut table_space = [0u32; MOST_TABLE];
     let mut path_space = [0u32; MOST_PATH];
     let mut literal_space = [0.0f64; MOST_LITERALS];
+    let mut file_space = [0u8; MOST_FILE];
     let table: &mut [u32] = &mut table_space;
     let path: &mut [u32] = &mut path_space;
     let literals: &mut [f64] = &mut literal_space;
+    let file: &mut [u8] = &mut file_space;
     let mut lengths = Lengths {
         table: 0,
         path: 0,
         literals: 0,
+        file: 0,
     };
     let mut begin = 0;
     while begin < text.len() {
         let end = line_end(text, begin);
-        lengths = run_line(&text[begin..end], lengths, table, path, literals);
+        lengths = run_line(&text[begin..end], lengths, table, path, literals, file);
         begin = end + 1;
     }
 }

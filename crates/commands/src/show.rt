@@ -1,4 +1,5 @@
 // What is written: an answer as bare numbers, or for a line with a name the name and the answer in words.
+use basics::WideAnswer;
 use lines::output::front;
 use lines::output::is_changed;
 use lines::output::written;
@@ -9,9 +10,8 @@ use lines::put_numbers;
 use lines::put_text;
 use lines::read::behind;
 use lines::read::from;
-use lines::read::small;
 use lines::write_line;
-use meaning::Answer;
+ghost use Prim.Native.Nat.{_<_};
 
 // Where the answers of lines with names begin.
 const COLUMN: usize = 72;
@@ -20,6 +20,8 @@ const COLUMN: usize = 72;
 pub enum Unit {
     Row,
     Node,
+    Number,
+    Byte,
 }
 
 // The name of a line: what stands behind its first colon and a space, nothing where it has none.
@@ -49,11 +51,13 @@ fn put_unit(out: &mut [u8], used: usize, unit: Unit) -> usize {
     match unit {
         Unit::Row => put_text(out, used, b" row"),
         Unit::Node => put_text(out, used, b" node"),
+        Unit::Number => put_text(out, used, b" number"),
+        Unit::Byte => put_text(out, used, b" byte"),
     }
 }
 
 // So many of something.
-fn put_count(out: &mut [u8], used: usize, n: u32, unit: Unit) -> usize {
+fn put_count(out: &mut [u8], used: usize, n: u64, unit: Unit) -> usize {
     let number = put_number(out, used, n);
     let end = put_unit(out, number, unit);
     if n == 1 {
@@ -62,50 +66,82 @@ fn put_count(out: &mut [u8], used: usize, n: u32, unit: Unit) -> usize {
     put_byte(out, end, b's')
 }
 
-// What stands before and behind a field of a row.
-fn put_opening(out: &mut [u8], used: usize, field: usize) -> usize {
-    if field == 0 {
+// What stands before a field of a row, and what behind it.
+fn put_opening(out: &mut [u8], used: usize, first: bool) -> usize {
+    if first {
         return put_text(out, used, b" (");
     }
     put_byte(out, used, b',')
 }
 
-fn put_closing(out: &mut [u8], used: usize, field: usize) -> usize {
-    if field == 4 {
+fn put_closing(out: &mut [u8], used: usize, last: bool) -> usize {
+    if last {
         return put_byte(out, used, b')');
     }
     used
 }
 
-// The rows of a path, each in parentheses.
-fn put_rows(out: &mut [u8], used: usize, rows: &[u32]) -> usize {
+// Rows of so many fields, each row in parentheses.
+fn put_rows(out: &mut [u8], used: usize, fields: usize, rows: &[u32]) -> usize
+    requires { ⌜ 0 < fields ⌝ }
+{
     let mut end = used;
     let mut i = 0;
     while i < rows.len() {
-        end = put_opening(out, end, i % 5);
-        end = put_number(out, end, rows[i]);
-        end = put_closing(out, end, i % 5);
+        end = put_opening(out, end, i % fields == 0);
+        end = put_number(out, end, rows[i] as u64);
+        i += 1;
+        end = put_closing(out, end, i % fields == 0);
+    }
+    end
+}
+
+// What an entry of a file is shown as: a slash for a line feed, since a file is shown on one line.
+fn shown(entry: u32) -> u8 {
+    if entry == 10 {
+        b'/'
+    } else if entry < 256 {
+        entry as u8
+    } else {
+        b'?'
+    }
+}
+
+// The bytes of a file.
+fn put_file(out: &mut [u8], used: usize, file: &[u32]) -> usize {
+    let mut end = put_byte(out, used, b' ');
+    let mut i = 0;
+    while i < file.len() {
+        end = put_byte(out, end, shown(file[i]));
         i += 1;
     }
     end
 }
 
 // How many there are, and then each.
-fn put_entries(out: &mut [u8], used: usize, n: u32, unit: Unit, entries: &[u32]) -> usize {
+fn put_entries(out: &mut [u8], used: usize, n: u64, unit: Unit, entries: &[u32]) -> usize {
     let mut end = put_count(out, used, n, unit);
     if entries.len() == 0 {
         return end;
     }
     end = put_byte(out, end, b':');
     match unit {
-        Unit::Row => put_rows(out, end, entries),
+        Unit::Row => put_rows(out, end, 5, entries),
         Unit::Node => put_numbers(out, end, entries),
+        Unit::Number => put_rows(out, end, 4, entries),
+        Unit::Byte => put_file(out, end, entries),
     }
 }
 
 // The answer in words: the number, then for 0 how many and for any other the place.
-fn put_words(out: &mut [u8], used: usize, answer: Answer, unit: Unit, entries: &[u32]) -> usize {
-    let mut end = put_number(out, used, answer.number);
+fn put_words(
+    out: &mut [u8],
+    used: usize,
+    answer: WideAnswer,
+    unit: Unit,
+    entries: &[u32],
+) -> usize {
+    let mut end = put_number(out, used, answer.number as u64);
     end = put_text(out, end, b"  ");
     if answer.number == 0 {
         return put_entries(out, end, answer.place, unit, entries);
@@ -115,8 +151,8 @@ fn put_words(out: &mut [u8], used: usize, answer: Answer, unit: Unit, entries: &
 }
 
 // `number place`, and the entries.
-fn put_bare(out: &mut [u8], used: usize, answer: Answer, entries: &[u32]) -> usize {
-    let mut end = put_number(out, used, answer.number);
+fn put_bare(out: &mut [u8], used: usize, answer: WideAnswer, entries: &[u32]) -> usize {
+    let mut end = put_number(out, used, answer.number as u64);
     end = put_byte(out, end, b' ');
     end = put_number(out, end, answer.place);
     put_numbers(out, end, entries)
@@ -134,7 +170,7 @@ fn put_rest(out: &mut [u8], used: usize, told: bool, count: usize, output: &[u32
 }
 
 // An answer, whose call may have written so many numbers on 0 and none where it refused.
-pub fn write_answer(line: &[u8], answer: Answer, unit: Unit, numbers: usize, output: &[u32]) {
+pub fn write_answer(line: &[u8], answer: WideAnswer, unit: Unit, numbers: usize, output: &[u32]) {
     let mut space = io::large_buffer();
     let out: &mut [u8] = &mut space;
     let count = written(answer.number, numbers);
@@ -160,9 +196,9 @@ pub fn write_part(line: &[u8], begin: usize, part: &[u32]) {
     if part.len() == 0 {
         used = put_text(out, used, b"empty");
     } else if name.len() == 0 {
-        used = put_number(out, used, small(begin as u64));
+        used = put_number(out, used, begin as u64);
         used = put_byte(out, used, b' ');
-        used = put_number(out, used, small(part.len() as u64));
+        used = put_number(out, used, part.len() as u64);
         used = put_numbers(out, used, part);
     } else {
         used = put_text(out, used, b"part");
@@ -180,6 +216,6 @@ pub fn write_place(line: &[u8], place: u32) {
     if name.len() != 0 {
         used = put_text(out, used, b"place ");
     }
-    used = put_number(out, used, place);
+    used = put_number(out, used, place as u64);
     write_line(out, used);
 }

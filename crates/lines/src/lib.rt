@@ -25,9 +25,9 @@ pub fn put_text(line: &mut [u8], used: usize, text: &[u8]) -> usize {
     end
 }
 
-pub fn put_number(line: &mut [u8], used: usize, n: u32) -> usize {
+pub fn put_number(line: &mut [u8], used: usize, n: u64) -> usize {
     let mut digits = [0u8; 20];
-    let count = io::decimal(n as u64, &mut digits);
+    let count = io::decimal(n, &mut digits);
     put_text(line, used, &digits[..count])
 }
 
@@ -37,7 +37,7 @@ pub fn put_numbers(line: &mut [u8], used: usize, numbers: &[u32]) -> usize {
     let mut i = 0;
     while i < numbers.len() {
         end = put_byte(line, end, b' ');
-        end = put_number(line, end, numbers[i]);
+        end = put_number(line, end, numbers[i] as u64);
         i += 1;
     }
     end

@@ -4,6 +4,9 @@ ghost use Prim.Native.Nat.{_≤_};
 // What an output slice holds before the call.
 pub const UNTOUCHED: u32 = 4294967295;
 
+// The same of an output of bytes. No table file has this byte.
+pub const UNTOUCHED_BYTE: u8 = 255;
+
 pub fn least(a: usize, b: usize) -> usize
     ensures { λ r. ⌜ r ≤ b ⌝ }
 {
@@ -29,6 +32,24 @@ pub fn copy(from: &[u32], into: &mut [u32]) -> usize {
         i += 1;
     }
     i
+}
+
+// A byte as an entry: one that shows no change stays one that shows none.
+fn entry_of(byte: u8) -> u32 {
+    if byte == UNTOUCHED_BYTE {
+        UNTOUCHED
+    } else {
+        byte as u32
+    }
+}
+
+// Copies bytes as entries, as many as both slices hold, so that an output of bytes is shown as any other.
+pub fn copy_bytes(from: &[u8], into: &mut [u32]) {
+    let mut i = 0;
+    while i < into.len() && i < from.len() {
+        into[i] = entry_of(from[i]);
+        i += 1;
+    }
 }
 
 // Has an entry from an index on changed?

@@ -1,4 +1,4 @@
-// Reading a line of text: its first word, the decimal numbers behind it, and what stands behind a byte.
+// Reading a line of text: its first word, the decimal numbers behind it, what stands behind a byte, and a file.
 use crate::output::least;
 ghost use Prim.Native.Nat.{_≤_};
 ghost use lib.ListN.{length};
@@ -57,6 +57,21 @@ pub fn behind(line: &[u8], byte: u8) -> usize {
 pub fn from(line: &[u8], begin: usize) -> &[u8] {
     let at = least(begin, line.len());
     &line[at..]
+}
+
+// What a byte of a line stands for in a file: a slash for a line feed, which no line has.
+fn file_byte(byte: u8) -> u8 {
+    if byte == b'/' { b'\n' } else { byte }
+}
+
+// Reads a text as a file to the front of a slice, as much as it holds; gives back the file's length.
+pub fn read_file(text: &[u8], into: &mut [u8]) -> usize {
+    let mut i = 0;
+    while i < text.len() && i < into.len() {
+        into[i] = file_byte(text[i]);
+        i += 1;
+    }
+    i
 }
 
 // The digit that a byte is, or 10.

@@ -7,10 +7,10 @@ use Rattle.commands.proofs.run_lines.Statement.{statement}
 use Rattle.commands.proofs.run_lines.Tie as tie
 
 abbrev Inv-loop : tie.InvT-loop
-Inv-loop text table₀ path₀ literals₀ lengths₀ begin₀ table path literals lengths begin = begin₀ ≤ begin
+Inv-loop text table₀ path₀ literals₀ file₀ lengths₀ begin₀ table path literals file lengths begin = begin₀ ≤ begin
 
 abbrev μ-loop : tie.MeasureT-loop
-μ-loop text table₀ path₀ literals₀ lengths₀ begin₀ table path literals lengths begin = length text - begin
+μ-loop text table₀ path₀ literals₀ file₀ lengths₀ begin₀ table path literals file lengths begin = length text - begin
 
 slice-aggregate-table : tie.Need-slice-aggregate-table Inv-loop μ-loop
 slice-aggregate-table c = search needs
@@ -20,6 +20,9 @@ slice-aggregate-path c = search needs
 
 slice-aggregate-literals : tie.Need-slice-aggregate-literals Inv-loop μ-loop
 slice-aggregate-literals c = search needs
+
+slice-aggregate-file : tie.Need-slice-aggregate-file Inv-loop μ-loop
+slice-aggregate-file c = search needs
 
 loop-holds : tie.Need-loop-holds Inv-loop μ-loop
 loop-holds c = search needs
@@ -60,6 +63,7 @@ run-lines-spec =
     slice-aggregate-table
     slice-aggregate-path
     slice-aggregate-literals
+    slice-aggregate-file
     loop-holds
     line-end-requires
     sub-run-line

@@ -1,5 +1,6 @@
 -- `lines::put_numbers` meets its contract: the line keeps its length; what is left of the numbers falls.
 -- Assumes nothing.
+use native.Mathlib.Omega.{arith}
 use borrow.Author.Needs.{needs}
 use Prim.Native.Nat.{_≤_, _-_}
 use mathlib.Core.Path.{_≡_}
@@ -24,6 +25,9 @@ mul-put-number c = search needs
 
 shared-slice-read-put-number : tie.Need-shared-slice-read-put-number Inv-loop μ-loop
 shared-slice-read-put-number c = search needs
+
+cast-put-number : tie.Need-cast-put-number Inv-loop μ-loop
+cast-put-number c = omega (arith, c .shared-slice-known2 .given (c .before .before .before .before .before .before .before .loop .i))
 
 put-number-requires : tie.Need-put-number-requires Inv-loop μ-loop
 put-number-requires c κs = search needs
@@ -53,6 +57,7 @@ put-numbers-spec =
     put-byte-requires
     mul-put-number
     shared-slice-read-put-number
+    cast-put-number
     put-number-requires
     add-i
     loop-less

@@ -27,6 +27,9 @@ small-requires c κs = search needs
 evaluate-requires : tie.Need-evaluate-requires
 evaluate-requires c κs = search needs
 
+widened-requires : tie.Need-widened-requires
+widened-requires c κs = search needs
+
 cast-write-answer : tie.Need-cast-write-answer
 cast-write-answer c = search needs
 
@@ -47,6 +50,7 @@ answer-evaluate-spec =
     slice-aggregate-out
     small-requires
     evaluate-requires
+    widened-requires
     cast-write-answer
     write-answer-requires
     returns)

@@ -21,6 +21,9 @@ slice-aggregate-out c = simp length-take (omega arith)
 turn-requires : tie.Need-turn-requires
 turn-requires c κs = search needs
 
+widened-requires : tie.Need-widened-requires
+widened-requires c κs = search needs
+
 cast-write-answer : tie.Need-cast-write-answer
 cast-write-answer c = search needs
 
@@ -42,6 +45,7 @@ answer-turn-spec =
     array-borrow-prefix-space
     slice-aggregate-out
     turn-requires
+    widened-requires
     cast-write-answer
     mul-write-answer
     write-answer-requires

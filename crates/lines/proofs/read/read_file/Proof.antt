@@ -1,0 +1,65 @@
+-- `lines::read::read_file` meets its contract: the slice keeps its length, and what is left of the text falls.
+-- Assumes nothing.
+use borrow.Author.Needs.{needs}
+use Prim.Native.Nat.{_-_}
+use mathlib.Core.Path.{_≡_}
+use lib.ListN.{length}
+use Rattle.lines.proofs.read.read_file.Statement.{statement}
+use Rattle.lines.proofs.read.read_file.Tie as tie
+
+abbrev Inv-loop : tie.InvT-loop
+Inv-loop text into₀ i₀ into i = length into ≡ length into₀
+
+abbrev μ-loop : tie.MeasureT-loop
+μ-loop text into₀ i₀ into i = length text - i
+
+loop-holds : tie.Need-loop-holds Inv-loop μ-loop
+loop-holds c = search needs
+
+shared-slice-read-file-byte : tie.Need-shared-slice-read-file-byte Inv-loop μ-loop
+shared-slice-read-file-byte c = search needs
+
+file-byte-requires : tie.Need-file-byte-requires Inv-loop μ-loop
+file-byte-requires c κs = search needs
+
+slice-write-into : tie.Need-slice-write-into Inv-loop μ-loop
+slice-write-into c = search needs
+
+add-i : tie.Need-add-i Inv-loop μ-loop
+add-i c = search needs
+
+loop-less : tie.Need-loop-less Inv-loop μ-loop
+loop-less c = search needs
+
+loop-again : tie.Need-loop-again Inv-loop μ-loop
+loop-again c = search needs
+
+same-length : tie.Need-same-length Inv-loop μ-loop
+same-length c = search needs
+
+returns : tie.Need-returns Inv-loop μ-loop
+returns c = search needs
+
+same-length-2 : tie.Need-same-length-2 Inv-loop μ-loop
+same-length-2 c = search needs
+
+returns-2 : tie.Need-returns-2 Inv-loop μ-loop
+returns-2 c = search needs
+
+pub read-file-spec : {M : Type 1} → statement M
+read-file-spec =
+    tie.close
+    (tie.spec
+    Inv-loop
+    μ-loop
+    loop-holds
+    shared-slice-read-file-byte
+    file-byte-requires
+    slice-write-into
+    add-i
+    loop-less
+    loop-again
+    same-length
+    returns
+    same-length-2
+    returns-2)
