@@ -1,5 +1,7 @@
 // The C interface: the public functions, exported for a C host (include/bargetulip.h). A slice passes as a pointer and a length.
-// Each returns document 01's number and stores its place, but for the two that have none; the contracts pass on what the library promises.
+// Each returns the documents' number and stores its place, but for the two that have none; the contracts pass on what the library promises.
+use files::read_table;
+use files::write_table;
 use path_check::check_path;
 use place::axis_place;
 use select::evaluate;
@@ -9,6 +11,7 @@ use view::ends_of;
 ghost use Rattle.meaning.specs.Answers.{answer};
 ghost use Rattle.meaning.specs.View.{partFrom};
 ghost use Rattle.meaning.specs.Promises.{ChecksTable, AnswersPlace, ChecksPath, EvaluatesPath, TurnsPath, FindsPart};
+ghost use Rattle.files.specs.Answers.{ReadsTable, WritesTable};
 
 #[no_mangle]
 pub extern "C" fn bt_check_table(table: &[u32], place: &mut u32) -> u32
@@ -75,4 +78,22 @@ pub extern "C" fn bt_view(
     let part = ends_of(table, list, node);
     *begin = part.begin;
     *count = part.length;
+}
+
+#[no_mangle]
+pub extern "C" fn bt_read_table(file: &[u8], out: &mut [u32], place: &mut u64) -> u32
+    ensures { λ r. ⌜ ReadsTable (now (file .entry)) (now (out .entry)) (answer r (now (place .exit))) (now (out .exit)) ⌝ }
+{
+    let answer = read_table(file, out);
+    *place = answer.place;
+    answer.number
+}
+
+#[no_mangle]
+pub extern "C" fn bt_write_table(table: &[u32], out: &mut [u8], place: &mut u64) -> u32
+    ensures { λ r. ⌜ WritesTable (now (table .entry)) (now (out .entry)) (answer r (now (place .exit))) (now (out .exit)) ⌝ }
+{
+    let answer = write_table(table, out);
+    *place = answer.place;
+    answer.number
 }
