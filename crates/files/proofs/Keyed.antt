@@ -6,10 +6,11 @@ use native.Mathlib.Numerals.{add-one}
 use mathlib.Core.Path.{_≡_, refl, sym, ap, _∙_}
 use mathlib.Core.Bool.{Bool, true, false, _&&_, true≢false}
 use mathlib.Core.List.{List, [], _∷_, _++_, append-assoc}
-use lib.ListN.{length, getD, drop, drop-of-length-le, length-drop}
+use lib.ListN.{length, getD, drop, drop-of-length-le, length-append, length-drop}
 use lib.Seq.{drop-cons, drop-drop, drop-append-seam, getD-drop}
 use lib.Dec.{T, eqb}
 use borrow.Author.Tests.{eqb-true, eq-eqb, ne-eqb}
+use Rattle.meaning.proofs.Bools.{is-true, is-false}
 use Rattle.decimal.specs.Decimal.{digits, leading, mostNumber, decimalAt}
 use Rattle.decimal.specs.declared.Decimal.the-variants.{Number, Nothing}
 use Rattle.decimal.proofs.Decimals.{read-digits, digits-read, leading-split}
@@ -21,10 +22,6 @@ module _ (word text : List ℕ) (i j : ℕ) where
   pub begins-all : length word ≤ i → begins (drop i word) (drop j text) ≡ true
   unfolding begins
   begins-all h = rw (drop-of-length-le word h)
-
-  pub begins-past : i < length word → length text ≤ j → begins (drop i word) (drop j text) ≡ false
-  unfolding begins
-  begins-past h k = rw (drop-of-length-le text k, drop-cons word i 0)
 
   module _ (h : i < length word) (k : j < length text) where
     begins-both : begins (drop i word) (drop j text) ≡ (eqb (getD word i 0) (getD text j 0) && begins (drop (suc i) word) (drop (suc j) text))
@@ -52,6 +49,11 @@ begins-with (b ∷ word) (c ∷ text) h = by (eqb b c) refl (begins-with word te
         let d : b ≡ c = eqb-true b c e in
         λ i. sym d i ∷ m i
     by false e more = let k : false ≡ true = rw e at h in absurd (true≢false (sym k))
+
+-- a text that is shorter than the word does not begin with it
+pub begins-short : (word text : List ℕ) → length text < length word → begins word text ≡ false
+begins-short word text h =
+    is-false (begins word text) (λ b. let n : length text ≡ length word + length (drop (length word) text) = ap length (begins-with word text (is-true (begins word text) b)) ∙ length-append word (drop (length word) text) in omega arith)
 
 pub begins-append : (word rest : List ℕ) → begins word (word ++ rest) ≡ true
 unfolding begins

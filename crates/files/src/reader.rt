@@ -31,11 +31,11 @@ fn stands_at(text: &[u8], at: usize, word: &[u8]) -> bool
     requires { ⌜ at ≤ length (now text) ⌝ }
     ensures { λ r. ⌜ r ≡ begins (now (word .entry)) (drop at (now (text .entry))) ⌝ }
 {
+    if text.len() - at < word.len() {
+        return false;
+    }
     let mut i = 0;
     while i < word.len() {
-        if text.len() <= at + i {
-            return false;
-        }
         if text[at + i] != word[i] {
             return false;
         }
