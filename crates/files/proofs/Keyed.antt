@@ -1,15 +1,15 @@
 -- Laws of the line of a key as it is read: what a text begins with, byte by byte and as an equation of bytes; when the line stands there.
 -- Assumes nothing.
-use Prim.Native.Nat.{ℕ, suc, _+_, _-_, _<_, _≤_}
+use Prim.Native.Nat.{ℕ, suc, _+_, _<_, _≤_}
 use native.Mathlib.Omega.{arith}
 use native.Mathlib.Numerals.{add-one}
 use mathlib.Core.Path.{_≡_, refl, sym, ap, _∙_}
 use mathlib.Core.Bool.{Bool, true, false, _&&_, true≢false}
 use mathlib.Core.List.{List, [], _∷_, _++_, append-assoc}
-use lib.ListN.{length, getD, drop, drop-of-length-le, length-append, length-drop}
+use lib.ListN.{length, getD, drop, drop-of-length-le, length-append}
 use lib.Seq.{drop-cons, drop-drop, drop-append-seam, getD-drop}
 use lib.Dec.{T, eqb}
-use borrow.Author.Tests.{eqb-true, eq-eqb, ne-eqb}
+use borrow.Author.Tests.{eqb-true, eqb-false, eq-eqb, ne-eqb}
 use Rattle.meaning.proofs.Bools.{is-true, is-false}
 use Rattle.decimal.specs.Decimal.{digits, leading, mostNumber, decimalAt}
 use Rattle.decimal.specs.declared.Decimal.the-variants.{Number, Nothing}
@@ -61,11 +61,8 @@ begins-append [] rest = refl
 begins-append (b ∷ word) rest = rw (eq-eqb b b refl, begins-append word rest)
 
 -- what stands at an index where the rest of a text is known
-pub stands-there : (text rest : List ℕ) (i b : ℕ) → drop i text ≡ b ∷ rest → (i < length text) × (getD text i 0 ≡ b)
-stands-there text rest i b e =
-    let n : length text - i ≡ suc (length rest) = sym (length-drop i text) ∙ ap length e in
-    let z : i + 0 ≡ i = omega arith in
-    (omega arith, rw z at (sym (getD-drop i text 0 0)) ∙ ap (λ (l : List ℕ). getD l 0 0) e)
+stands-there : (text rest : List ℕ) (i b : ℕ) → drop i text ≡ b ∷ rest → getD text i 0 ≡ b
+stands-there text rest i b e = let z : i + 0 ≡ i = omega arith in rw z at (sym (getD-drop i text 0 0)) ∙ ap (λ (l : List ℕ). getD l 0 0) e
 
 -- ---- the line of a key
 
@@ -102,22 +99,22 @@ module _ (word file : List ℕ) (at : ℕ) where
   no-number d n rest h e = let k : Number n (behind + length (digits n)) ≡ Nothing = sym (number-there n rest h e) ∙ d in let w : _≡_ {A = ℕ} 0 1 = cc in omega arith
 
   module _ (n end : ℕ) (d : decimalAt file (at + length word) ≡ Number n end) where
-    pub no-feed : ((rest : List ℕ) → drop end file ≡ 10 ∷ rest → ⊥) → LineAt word file at Nothing
+    pub no-feed : eqb (getD file end 0) 10 ≡ false → LineAt word file at Nothing
     unfolding LineAt behind
     no-feed f m rest h e =
         let k : Number m (behind + length (digits m)) ≡ Number n end = sym (number-there m rest h e) ∙ d in
         let z : behind + length (digits m) ≡ end = cc in
-        f rest (rw z at (feed-there m rest h e))
+        eqb-false (getD file end 0) 10 f (stands-there file rest end 10 (rw z at (feed-there m rest h e)))
 
     -- and there is one where all are
-    pub line-found : begins word (drop at file) ≡ true → end < length file → getD file end 0 ≡ 10 → LineAt word file at (Number n (end + 1))
+    pub line-found : begins word (drop at file) ≡ true → end < length file → eqb (getD file end 0) 10 ≡ true → LineAt word file at (Number n (end + 1))
     unfolding LineAt
     line-found b l f =
         let r = digits-read file (at + length word) n end d in
         let a : drop at file ≡ word ++ drop (at + length word) file = begins-with word (drop at file) b ∙ rw (drop-drop (length word) at file) in
         let c : drop (at + length word) file ≡ digits n ++ drop end file =
         leading-split (drop (at + length word) file) ∙ rw (r .1, drop-drop (length (digits n)) (at + length word) file, r .2) in
-        let g : drop end file ≡ 10 ∷ drop (end + 1) file = drop-cons file end 0 l ∙ rw (f, add-one) in (
+        let g : drop end file ≡ 10 ∷ drop (end + 1) file = drop-cons file end 0 l ∙ rw (eqb-true (getD file end 0) 10 f, add-one) in (
           r .0,
           omega arith,
           rw (a, c, g) (sym (rw (append-assoc word (digits n) (10 ∷ []), append-assoc word (digits n ++ 10 ∷ []) (drop (end + 1) file), append-assoc (digits n) (10 ∷ []) (drop (end + 1) file)))),

@@ -5,10 +5,11 @@ use decimal::Decimal;
 use meaning::MOST_ROWS;
 use table_check::check_table;
 ghost use mathlib.Core.Path.{_≡_};
+ghost use mathlib.Core.Bool.{true};
 ghost use mathlib.Core.List.{_++_};
 ghost use Prim.Native.Nat.{_+_, _*_, _<_, _≤_};
-ghost use lib.ListN.{length, drop};
-ghost use lib.Dec.{T};
+ghost use lib.ListN.{length, getD, drop};
+ghost use lib.Dec.{T, eqb};
 ghost use Rattle.meaning.specs.Answers.{answer, output};
 ghost use Rattle.decimal.specs.Decimal.{ascii};
 ghost use Rattle.files.specs.Files.{key, holdable, good, HasForm};
@@ -17,8 +18,6 @@ ghost use Rattle.files.specs.Parts.{begins, LineAt, Passed, HeadOf, form
 
 // The numbers of the largest table.
 const MOST_NUMBERS: usize = 4 * MOST_ROWS;
-
-const LINE_FEED: u8 = 10;
 
 // The first two lines: how many rows follow, and where; or the one that is bad.
 enum Head {
@@ -44,6 +43,17 @@ fn stands_at(text: &[u8], at: usize, word: &[u8]) -> bool
     true
 }
 
+// Does a line feed stand at i?
+fn feed_at(text: &[u8], i: usize) -> bool
+    ensures { λ r. ⌜ (r ≡ eqb (getD (now (text .entry)) i 0) 10) × (r ≡ true → i < length (now (text .entry))) ⌝ }
+{
+    if i < text.len() {
+        text[i] == b'\n'
+    } else {
+        false
+    }
+}
+
 // Reads the line of this key, the = among its bytes, at an index of the file.
 fn read_line(file: &[u8], at: usize, word: &[u8]) -> Decimal
     requires { ⌜ at ≤ length (now file) ⌝ }
@@ -56,10 +66,7 @@ fn read_line(file: &[u8], at: usize, word: &[u8]) -> Decimal
     let Decimal::Number(n, end) = found else {
         return Decimal::Nothing;
     };
-    if file.len() <= end {
-        return Decimal::Nothing;
-    }
-    if file[end] != LINE_FEED {
+    if !feed_at(file, end) {
         return Decimal::Nothing;
     }
     Decimal::Number(n, end + 1)

@@ -15,8 +15,6 @@ ghost use Rattle.files.specs.Files.{line, key, numberLines, joined, byte
 ghost use Rattle.files.specs.Answers.{WritesTable};
 ghost use Rattle.files.specs.Parts.{keyed};
 
-const LINE_FEED: u8 = 10;
-
 // How many bytes the line of number i has.
 fn line_length(i: usize, n: u32) -> usize
     ensures { λ r. ⌜ (r ≡ length (line (key i) n)) × (r ≤ 18) ⌝ }
@@ -54,7 +52,7 @@ fn put_line(out: &mut [u8], at: usize, word: &[u8], n: u32) -> usize
 {
     let behind = put(out, at, word);
     let end = decimal::write(n, out, behind);
-    out[end] = LINE_FEED;
+    out[end] = b'\n';
     end + 1
 }
 

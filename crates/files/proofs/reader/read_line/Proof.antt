@@ -4,7 +4,7 @@ use native.Mathlib.Omega.{arith}
 use mathlib.Core.Path.{sym, _∙_}
 use borrow.Author.Needs.{needs}
 use borrow.Author.Tests.{not-true, not-false}
-use Rattle.files.proofs.Keyed.{stands-there, no-key, no-number, no-feed, line-found}
+use Rattle.files.proofs.Keyed.{no-key, no-number, no-feed, line-found}
 use Rattle.files.proofs.reader.read_line.Statement.{statement}
 use Rattle.files.proofs.reader.read_line.Tie as tie
 
@@ -29,28 +29,22 @@ enum-told c = search needs
 returns-2 : tie.Need-returns-2
 returns-2 c = no-number _ _ _ (sym (c .before .before .read .ensures) ∙ c .enum-told .given .1)
 
+feed-at-requires : tie.Need-feed-at-requires
+feed-at-requires c κs = search needs
+
 returns-3 : tie.Need-returns-3
 returns-3 c =
-    no-feed _ _ _ _ _ (sym (c .before .before .before .before .read .ensures) ∙ c .before .before .found .given .1)
-    (λ rest e. omega (arith, stands-there (c .before .before .before .before .before .before .before .before .before .args .file .now) rest (c .before .before .found .given .0 .1 .0) 10 e .0))
+    no-feed _ _ _ _ _ (sym (c .before .before .before .before .before .read .ensures) ∙ c .before .before .before .found .given .1) (sym (c .before .feed-at .ensures .0) ∙ not-true _ (c .if2 .taken))
 
-shared-slice-read-if3 : tie.Need-shared-slice-read-if3
-shared-slice-read-if3 c = search needs
+add-t10 : tie.Need-add-t10
+add-t10 c = omega (arith, c .before .feed-at .ensures .1 (not-false _ (c .if2 .left)))
 
 returns-4 : tie.Need-returns-4
 returns-4 c =
-    no-feed _ _ _ _ _ (sym (c .before .before .before .before .before .before .read .ensures) ∙ c .before .before .before .before .found .given .1)
-    (λ rest e. c .if3 .taken (stands-there (c .before .before .before .before .before .before .before .before .before .before .before .args .file .now) rest (c .before .before .before .before .found .given .0 .1 .0) 10 e .1))
-
-add-t10 : tie.Need-add-t10
-add-t10 c = search needs
-
-returns-5 : tie.Need-returns-5
-returns-5 c =
-    line-found _ _ _ _ _ (sym (c .before .before .before .before .before .before .read .ensures) ∙ c .before .before .before .before .found .given .1)
-    (sym (c .before .before .before .before .before .before .before .before .stands-at .ensures) ∙ not-false _ (c .before .before .before .before .before .before .before .if1 .left))
-    (c .before .before .if2 .left)
-    (c .if3 .left)
+    line-found _ _ _ _ _ (sym (c .before .before .before .before .before .read .ensures) ∙ c .before .before .before .found .given .1)
+    (sym (c .before .before .before .before .before .before .before .stands-at .ensures) ∙ not-false _ (c .before .before .before .before .before .before .if1 .left))
+    (c .before .feed-at .ensures .1 (not-false _ (c .if2 .left)))
+    (sym (c .before .feed-at .ensures .0) ∙ not-false _ (c .if2 .left))
 
 pub read-line-spec : {M : Type 1} → statement M
 read-line-spec =
@@ -63,8 +57,7 @@ read-line-spec =
     enum-known-found
     enum-told
     returns-2
+    feed-at-requires
     returns-3
-    shared-slice-read-if3
-    returns-4
     add-t10
-    returns-5)
+    returns-4)
