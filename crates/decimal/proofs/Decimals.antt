@@ -255,11 +255,18 @@ digits-read text i n next e = by (plain d && leb (number d) mostNumber) refl
 
 -- ---- the digits from an index on, one by one
 
+-- a digit stands inside the text: 0, which is read past its end, is none
+pub digit-inside : (text : List ℕ) (i : ℕ) → isDigit (getD text i 0) ≡ true → i < length text
+digit-inside text i e =
+    ⊎-elim
+    (λ (h : i < length text). h)
+    (λ (h : length text ≤ i). let z : isDigit 0 ≡ true = rw (List·getD-eq-default text 0 h) at e in absurd (true≢false (sym z)))
+    (lt-or-ge i (length text))
+
 -- a digit at index i is the first of those from i on
-pub leading-at : (text : List ℕ) (i : ℕ) → i < length text → isDigit (getD text i 0) ≡ true
-    → leading (drop i text) ≡ getD text i 0 ∷ leading (drop (i + 1) text)
+pub leading-at : (text : List ℕ) (i : ℕ) → isDigit (getD text i 0) ≡ true → leading (drop i text) ≡ getD text i 0 ∷ leading (drop (i + 1) text)
 unfolding leading
-leading-at text i h e = rw (drop-cons text i 0, add-one) (rw e)
+leading-at text i e = let h : i < length text = digit-inside text i e in rw (drop-cons text i 0, add-one) (rw e)
 
 -- where none stands there are none
 pub leading-none : (text : List ℕ) (i : ℕ) → isDigit (getD text i 0) ≡ false → leading (drop i text) ≡ []
@@ -279,11 +286,11 @@ pub record Reading (text : List ℕ) (at value next : ℕ) : Type 0 where
 pub reading-starts : (text : List ℕ) (at : ℕ) → Reading text at 0 at
 reading-starts text at = record { bounded = omega arith; placed = refl; counted = refl }
 
-pub reading-more : (text : List ℕ) (at value next : ℕ) → Reading text at value next → next < length text → isDigit (getD text next 0) ≡ true
+pub reading-more : (text : List ℕ) (at value next : ℕ) → Reading text at value next → isDigit (getD text next 0) ≡ true
     → Reading text at (min (10 * value + (getD text next 0 - 48)) (mostNumber + 1)) (next + 1)
 unfolding numberFrom
-reading-more text at value next r h e =
-    let l : leading (drop next text) ≡ getD text next 0 ∷ leading (drop (next + 1) text) = leading-at text next h e in
+reading-more text at value next r e =
+    let l : leading (drop next text) ≡ getD text next 0 ∷ leading (drop (next + 1) text) = leading-at text next e in
     let p : next + suc (length (leading (drop (next + 1) text))) ≡ at + length (leading (drop at text)) = rw l at (r .placed) in
     record {
       bounded = omega arith;
@@ -348,9 +355,5 @@ pub leading-first : (text : List ℕ) (i : ℕ) → 0 < length (leading (drop i 
 leading-first text i h = by (isDigit (getD text i 0)) refl
   where
     by : (t : Bool) → isDigit (getD text i 0) ≡ t → (i < length text) × (getD (leading (drop i text)) 0 0 ≡ getD text i 0)
-    by true e =
-        ⊎-elim
-        (λ (k : i < length text). (k, rw (leading-at text i k e)))
-        (λ (k : length text ≤ i). let z : isDigit 0 ≡ true = rw (List·getD-eq-default text 0 k) at e in absurd (true≢false (sym z)))
-        (lt-or-ge i (length text))
+    by true e = (digit-inside text i e, rw (leading-at text i e))
     by false e = let z : length (leading (drop i text)) ≡ 0 = rw (leading-none text i e) in absurd (omega arith)

@@ -1,6 +1,5 @@
 // A number and its digits, both ways (document 02, W-201): decimals without leading zeros, up to 4,294,967,295, in lent bytes.
 ghost use mathlib.Core.Path.{_≡_};
-ghost use mathlib.Core.Bool.{true};
 ghost use Prim.Native.Nat.{_+_, _-_, _*_, _<_, _≤_, min};
 ghost use lib.ListN.{length, getD, drop};
 ghost use Rattle.decimal.specs.Decimal.{isDigit, mostNumber, leading, plain, digits, decimalAt, laid};
@@ -16,7 +15,7 @@ const TOO_LARGE: u64 = 4294967296;
 
 // Does a digit stand at i?
 fn digit_at(text: &[u8], i: usize) -> bool
-    ensures { λ r. ⌜ (r ≡ isDigit (getD (now (text .entry)) i 0)) × (r ≡ true → i < length (now (text .entry))) ⌝ }
+    ensures { λ r. ⌜ r ≡ isDigit (getD (now (text .entry)) i 0) ⌝ }
 {
     if i < text.len() {
         let b = text[i];

@@ -6,11 +6,12 @@ use native.Mathlib.Numerals.{add-one}
 use mathlib.Core.Path.{_≡_, refl, sym, ap, _∙_}
 use mathlib.Core.Bool.{Bool, true, false, _&&_, true≢false}
 use mathlib.Core.List.{List, [], _∷_, _++_, append-assoc}
-use lib.ListN.{length, getD, drop, drop-of-length-le, length-append}
+use mathlib.Core.Logic.{⊎-elim}
+use lib.ListN.{length, getD, drop, drop-of-length-le, length-append, List·getD-eq-default}
 use lib.Seq.{drop-cons, drop-drop, drop-append-seam, getD-drop}
 use lib.Dec.{T, eqb}
 use borrow.Author.Tests.{eqb-true, eqb-false, eq-eqb, ne-eqb}
-use Rattle.meaning.proofs.Bools.{is-true, is-false}
+use Rattle.meaning.proofs.Bools.{is-true, is-false, lt-or-ge}
 use Rattle.decimal.specs.Decimal.{digits, leading, mostNumber, decimalAt}
 use Rattle.decimal.specs.declared.Decimal.the-variants.{Number, Nothing}
 use Rattle.decimal.proofs.Decimals.{read-digits, digits-read, leading-split}
@@ -64,6 +65,14 @@ begins-append (b ∷ word) rest = rw (eq-eqb b b refl, begins-append word rest)
 stands-there : (text rest : List ℕ) (i b : ℕ) → drop i text ≡ b ∷ rest → getD text i 0 ≡ b
 stands-there text rest i b e = let z : i + 0 ≡ i = omega arith in rw z at (sym (getD-drop i text 0 0)) ∙ ap (λ (l : List ℕ). getD l 0 0) e
 
+-- a line feed stands inside the text: 0, which is read past its end, is none
+pub feed-inside : (text : List ℕ) (i : ℕ) → eqb (getD text i 0) 10 ≡ true → i < length text
+feed-inside text i e =
+    ⊎-elim
+    (λ (h : i < length text). h)
+    (λ (h : length text ≤ i). let z : eqb 0 10 ≡ true = rw (List·getD-eq-default text 0 h) at e in absurd (true≢false (sym z)))
+    (lt-or-ge i (length text))
+
 -- ---- the line of a key
 
 module _ (word file : List ℕ) (at : ℕ) where
@@ -107,9 +116,10 @@ module _ (word file : List ℕ) (at : ℕ) where
         eqb-false (getD file end 0) 10 f (stands-there file rest end 10 (rw z at (feed-there m rest h e)))
 
     -- and there is one where all are
-    pub line-found : begins word (drop at file) ≡ true → end < length file → eqb (getD file end 0) 10 ≡ true → LineAt word file at (Number n (end + 1))
+    pub line-found : begins word (drop at file) ≡ true → eqb (getD file end 0) 10 ≡ true → LineAt word file at (Number n (end + 1))
     unfolding LineAt
-    line-found b l f =
+    line-found b f =
+        let l : end < length file = feed-inside file end f in
         let r = digits-read file (at + length word) n end d in
         let a : drop at file ≡ word ++ drop (at + length word) file = begins-with word (drop at file) b ∙ rw (drop-drop (length word) at file) in
         let c : drop (at + length word) file ≡ digits n ++ drop end file =

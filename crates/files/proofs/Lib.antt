@@ -5,5 +5,6 @@ mod Heads
 mod Outcome
 mod Passing
 mod Written
+pub mod Computed
 pub mod Unique
 pub mod RoundTrips

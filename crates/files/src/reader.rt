@@ -5,7 +5,6 @@ use decimal::Decimal;
 use meaning::MOST_ROWS;
 use table_check::check_table;
 ghost use mathlib.Core.Path.{_≡_};
-ghost use mathlib.Core.Bool.{true};
 ghost use mathlib.Core.List.{_++_};
 ghost use Prim.Native.Nat.{_+_, _*_, _<_, _≤_};
 ghost use lib.ListN.{length, getD, drop};
@@ -45,7 +44,7 @@ fn stands_at(text: &[u8], at: usize, word: &[u8]) -> bool
 
 // Does a line feed stand at i?
 fn feed_at(text: &[u8], i: usize) -> bool
-    ensures { λ r. ⌜ (r ≡ eqb (getD (now (text .entry)) i 0) 10) × (r ≡ true → i < length (now (text .entry))) ⌝ }
+    ensures { λ r. ⌜ r ≡ eqb (getD (now (text .entry)) i 0) 10 ⌝ }
 {
     if i < text.len() {
         text[i] == b'\n'

@@ -3,11 +3,12 @@
 use Prim.Native.Nat.{_+_, _-_, _<_, _≤_}
 use native.Mathlib.Omega.{arith}
 use mathlib.Core.Path.{_≡_, sym, ap, _∙_}
-use lib.ListN.{length, drop}
+use mathlib.Core.Bool.{true}
+use lib.ListN.{length, getD}
 use borrow.Author.Needs.{needs}
 use borrow.Author.Tests.{not-true, not-false}
-use Rattle.decimal.specs.Decimal.{leading, decimalAt}
-use Rattle.decimal.proofs.Decimals.{Reading, reading-starts, reading-more, reading-done, Read, read-plain, read-large, read-number, digit-range}
+use Rattle.decimal.specs.Decimal.{isDigit}
+use Rattle.decimal.proofs.Decimals.{Reading, reading-starts, reading-more, reading-done, Read, read-plain, read-large, read-number, digit-range, digit-inside}
 use Rattle.decimal.proofs.read.Statement.{statement}
 use Rattle.decimal.proofs.read.Tie as tie
 
@@ -17,9 +18,16 @@ Inv-loop text at value₀ next₀ value next = Reading text at value next
 abbrev μ-loop : tie.MeasureT-loop
 μ-loop text at value₀ next₀ value next = length text - next
 
+-- a digit stands at next where the loop goes on
+goes-on : (c : tie.Then1 Inv-loop μ-loop) → isDigit (getD (c .before .before .before .before .args .text .now) (c .before .before .loop .next) 0) ≡ true
+goes-on c = sym (c .before .digit-at .ensures) ∙ c .if1 .taken
+
+inside : (c : tie.Then1 Inv-loop μ-loop) → c .before .before .loop .next < length (c .before .before .before .before .args .text .now)
+inside c = digit-inside (c .before .before .before .before .args .text .now) _ (goes-on c)
+
 -- what is known where the loop has ended
 done : (c : tie.Else1 Inv-loop μ-loop) → Read (c .before .before .before .before .args .text .now) (c .before .before .before .before .args .at) (c .before .before .loop .value) (c .before .before .loop .next)
-done c = reading-done _ _ _ _ (c .before .before .loop .inv) (sym (c .before .digit-at .ensures .0) ∙ c .if1 .left)
+done c = reading-done _ _ _ _ (c .before .before .loop .inv) (sym (c .before .digit-at .ensures) ∙ c .if1 .left)
 
 loop-holds : tie.Need-loop-holds Inv-loop μ-loop
 loop-holds c = reading-starts _ _
@@ -28,23 +36,19 @@ digit-at-requires : tie.Need-digit-at-requires Inv-loop μ-loop
 digit-at-requires c κs = search needs
 
 shared-slice-read-grown : tie.Need-shared-slice-read-grown Inv-loop μ-loop
-shared-slice-read-grown c = c .before .before .digit-at .ensures .1 (c .before .if1 .taken)
+shared-slice-read-grown c = inside (c .before)
 
 grown-requires : tie.Need-grown-requires Inv-loop μ-loop
-grown-requires c κs = (c .before .before .before .loop .inv .bounded, digit-range _ (sym (c .before .before .digit-at .ensures .0) ∙ c .before .if1 .taken) .0)
+grown-requires c κs = (c .before .before .before .loop .inv .bounded, digit-range _ (goes-on (c .before)) .0)
 
 add-next : tie.Need-add-next Inv-loop μ-loop
-add-next c = let h : c .before .before .before .before .loop .next < length (c .before .before .before .before .before .before .args .text .now) = c .before .before .before .digit-at .ensures .1 (c .before .before .if1 .taken) in omega arith
+add-next c = omega (arith, inside (c .before .before))
 
 loop-less : tie.Need-loop-less Inv-loop μ-loop
-loop-less c = let h : c .before .before .before .before .loop .next < length (c .before .before .before .before .before .before .args .text .now) = c .before .before .before .digit-at .ensures .1 (c .before .before .if1 .taken) in omega arith
+loop-less c = omega (arith, inside (c .before .before))
 
 loop-again : tie.Need-loop-again Inv-loop μ-loop
-loop-again c =
-    rw (c .grown .ensures)
-    (reading-more _ _ _ _ (c .before .before .before .before .loop .inv)
-    (c .before .before .before .digit-at .ensures .1 (c .before .before .if1 .taken))
-    (sym (c .before .before .before .digit-at .ensures .0) ∙ c .before .before .if1 .taken))
+loop-again c = rw (c .grown .ensures) (reading-more _ _ _ _ (c .before .before .before .before .loop .inv) (goes-on (c .before .before)))
 
 is-plain-requires : tie.Need-is-plain-requires Inv-loop μ-loop
 is-plain-requires c κs = done c .placed

@@ -1,8 +1,6 @@
 -- `files::reader::feed_at` meets its contract: past the end 0 is read, which is no line feed.
 -- Assumes nothing.
-use native.Mathlib.Omega.{arith}
-use mathlib.Core.Path.{refl, sym}
-use mathlib.Core.Bool.{true≢false}
+use mathlib.Core.Path.{refl}
 use lib.ListN.{List·getD-eq-default}
 use borrow.Author.Needs.{needs}
 use Rattle.files.proofs.reader.feed_at.Statement.{statement}
@@ -12,10 +10,10 @@ shared-slice-read-result : tie.Need-shared-slice-read-result
 shared-slice-read-result c = search needs
 
 returns : tie.Need-returns
-returns c = (refl, λ e. omega arith)
+returns c = refl
 
 returns-2 : tie.Need-returns-2
-returns-2 c = (rw (List·getD-eq-default (c .before .args .text .now) 0 (c .if1 .left)), λ e. absurd (true≢false (sym e)))
+returns-2 c = rw (List·getD-eq-default (c .before .args .text .now) 0 (c .if1 .left))
 
 pub feed-at-spec : {M : Type 1} → statement M
 feed-at-spec = tie.close (tie.spec shared-slice-read-result returns returns-2)

@@ -1,12 +1,19 @@
 -- `files::reader::read_line` meets its contract: no line is found where its key, its number or its line feed is not there.
 -- Assumes nothing.
 use native.Mathlib.Omega.{arith}
-use mathlib.Core.Path.{sym, _∙_}
+use mathlib.Core.Path.{_≡_, sym, _∙_}
+use mathlib.Core.Bool.{true}
+use lib.ListN.{getD}
+use lib.Dec.{eqb}
 use borrow.Author.Needs.{needs}
 use borrow.Author.Tests.{not-true, not-false}
-use Rattle.files.proofs.Keyed.{no-key, no-number, no-feed, line-found}
+use Rattle.files.proofs.Keyed.{feed-inside, no-key, no-number, no-feed, line-found}
 use Rattle.files.proofs.reader.read_line.Statement.{statement}
 use Rattle.files.proofs.reader.read_line.Tie as tie
+
+-- a line feed stands behind the digits
+fed : (c : tie.Else2) → eqb (getD (c .before .before .before .before .before .before .before .before .before .before .args .file .now) (c .before .before .before .found .given .0 .1 .0) 0) 10 ≡ true
+fed c = sym (c .before .feed-at .ensures) ∙ not-false _ (c .if2 .left)
 
 stands-at-requires : tie.Need-stands-at-requires
 stands-at-requires c κs = search needs
@@ -34,17 +41,16 @@ feed-at-requires c κs = search needs
 
 returns-3 : tie.Need-returns-3
 returns-3 c =
-    no-feed _ _ _ _ _ (sym (c .before .before .before .before .before .read .ensures) ∙ c .before .before .before .found .given .1) (sym (c .before .feed-at .ensures .0) ∙ not-true _ (c .if2 .taken))
+    no-feed _ _ _ _ _ (sym (c .before .before .before .before .before .read .ensures) ∙ c .before .before .before .found .given .1) (sym (c .before .feed-at .ensures) ∙ not-true _ (c .if2 .taken))
 
 add-t10 : tie.Need-add-t10
-add-t10 c = omega (arith, c .before .feed-at .ensures .1 (not-false _ (c .if2 .left)))
+add-t10 c = omega (arith, feed-inside (c .before .before .before .before .before .before .before .before .before .before .args .file .now) _ (fed c))
 
 returns-4 : tie.Need-returns-4
 returns-4 c =
     line-found _ _ _ _ _ (sym (c .before .before .before .before .before .read .ensures) ∙ c .before .before .before .found .given .1)
     (sym (c .before .before .before .before .before .before .before .stands-at .ensures) ∙ not-false _ (c .before .before .before .before .before .before .if1 .left))
-    (c .before .feed-at .ensures .1 (not-false _ (c .if2 .left)))
-    (sym (c .before .feed-at .ensures .0) ∙ not-false _ (c .if2 .left))
+    (fed c)
 
 pub read-line-spec : {M : Type 1} → statement M
 read-line-spec =
