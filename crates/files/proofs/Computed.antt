@@ -29,11 +29,11 @@ use Rattle.files.proofs.Forms.{bad-number, bad-last, good-file, form-un
 -- ---- a line
 
 -- the number of a line, and the index behind its line feed
-ended : List ℕ → Decimal → Decimal
+unfoldable pub ended : List ℕ → Decimal → Decimal
 ended file Nothing = Nothing
 ended file (Number n end) = cond (eqb (getD file end 0) 10) (Number n (end + 1)) Nothing
 
-lineAt : List ℕ → List ℕ → ℕ → Decimal
+unfoldable pub lineAt : List ℕ → List ℕ → ℕ → Decimal
 lineAt word file at = cond (begins word (drop at file)) (ended file (decimalAt file (at + length word))) Nothing
 
 line-at : (word file : List ℕ) (at : ℕ) → LineAt word file at (lineAt word file at)
@@ -56,11 +56,11 @@ line-at word file at = by (begins word (drop at file)) refl
 -- ---- the first two lines
 
 -- a count of rows in the limits
-counted : Decimal → Head
+unfoldable pub counted : Decimal → Head
 counted Nothing = Bad 2
 counted (Number n next) = cond (eqb n 0) (Bad 2) (cond (ltb mostRows n) (Bad 2) (Rows n next))
 
-headOf : List ℕ → Head
+unfoldable pub headOf : List ℕ → Head
 headOf file = cond (begins (ascii "edition=1\n") file) (counted (lineAt (ascii "nodes=") file 10)) (Bad 1)
 
 head-of : (file : List ℕ) → HeadOf file (headOf file)
@@ -83,12 +83,12 @@ head-of file = by (begins (ascii "edition=1\n") file) refl
 
 -- ---- the numbers
 
-onwards : Form → (ℕ → ℕ → Form) → Decimal → Form
+unfoldable pub onwards : Form → (ℕ → ℕ → Form) → Decimal → Form
 onwards stop more Nothing = stop
 onwards stop more (Number n next) = more n next
 
 -- k numbers are left to be read: from number i on, whose line stands at index at
-numbersFrom : ℕ → List ℕ → ℕ → ℕ → List ℕ → Form
+unfoldable pub numbersFrom : ℕ → List ℕ → ℕ → ℕ → List ℕ → Form
 numbersFrom zero file at i t = cond (ltb at (length file)) (bad (i + 3)) (good t)
 numbersFrom (suc k) file at i t =
     onwards (bad (i + 3)) (λ n next. numbersFrom k file next (i + 1) (set t i n)) (lineAt (ascii (key i) ++ ascii "=") file at)
@@ -114,11 +114,11 @@ numbers-from (suc k) file at i t e p =
 abbrev zeros : ℕ → List ℕ
 zeros n = replicate (4 * n) 0
 
-fromHead : List ℕ → Head → Form
+unfoldable pub fromHead : List ℕ → Head → Form
 fromHead file (Bad k) = bad k
 fromHead file (Rows n at) = numbersFrom (4 * n) file at 0 (zeros n)
 
-pub formOf : List ℕ → Form
+unfoldable pub formOf : List ℕ → Form
 formOf file = fromHead file (headOf file)
 
 -- EVERY FILE HAS A FORM, which is this one

@@ -8,3 +8,4 @@ mod Written
 pub mod Computed
 pub mod Unique
 pub mod RoundTrips
+pub mod Cases
