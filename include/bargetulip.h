@@ -180,7 +180,7 @@ uint32_t bt_read_table(const uint8_t *file, size_t file_len,
  * Returns 0, 1, 2 or 21, checked in the order 1, 2, 21. On 0 the file stands in
  * out[0 .. *place - 1] and the rest of out is unchanged. On every other number
  * out is unchanged. *place: the file's bytes (0 and 21), 0 (1), the lowest
- * broken row (2). A room of 21 bytes and 40 for each row is always enough. */
+ * broken row (2). Called with no room it says on 21 how many bytes to lend. */
 uint32_t bt_write_table(const uint32_t *table, size_t table_len,
                         uint8_t *out, size_t out_len, uint64_t *place);
 

@@ -3,10 +3,10 @@
 -- Assumes nothing.
 use Prim.Native.Nat.{ℕ, suc, _+_, _<_, _≤_}
 use native.Mathlib.Omega.{arith}
-use mathlib.Core.Path.{_≡_, refl, sym, ap, _∙_}
+use mathlib.Core.Path.{_≡_, sym, _∙_}
 use mathlib.Core.List.{List, [], _∷_, _++_, append-assoc, append-nil}
 use lib.ListN.{length, take, drop, set, length-append, length-drop, take-append-drop}
-use lib.Seq.{append-snoc, length-take-le, set-split, take-set-le, take-at, drop-at, drop-drop, drop-append-add}
+use lib.Seq.{append-snoc, length-take-le, set-split, take-set-le, take-at, drop-at, drop-drop}
 use Rattle.decimal.specs.Decimal.{laid}
 
 module _ (out : List ℕ) (i : ℕ) (s : List ℕ) where

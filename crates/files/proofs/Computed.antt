@@ -1,29 +1,29 @@
 -- The form of a file, computed: every file has one (`form-of`), so with `form-unique` exactly one, and the reader's answer is an equation
 -- (`read-computed`). Cases compute by it.
 -- Assumes nothing.
-use Prim.Native.Nat.{ℕ, zero, suc, _+_, _*_, _<_, _≤_}
+use Prim.Native.Nat.{ℕ, zero, suc, _+_, _*_}
 use native.Mathlib.Omega.{arith}
-use mathlib.Core.Path.{_≡_, refl, sym, ap, _∙_}
-use mathlib.Core.Logic.{_⊎_, inl, inr, ⊎-elim}
-use mathlib.Core.Bool.{Bool, true, false, _&&_, cond}
+use mathlib.Core.Path.{_≡_, refl}
+use mathlib.Core.Logic.{inl, inr}
+use mathlib.Core.Bool.{Bool, true, false, cond}
 use mathlib.Core.List.{List, _++_}
 use lib.ListN.{length, getD, drop, set, replicate, length-replicate, getD-replicate, length-set}
-use lib.Dec.{T, ltb, leb, eqb}
-use borrow.Author.Tests.{ltb-true, ltb-false, leb-true, leb-false, eqb-true, eqb-false}
+use lib.Dec.{ltb, eqb}
+use borrow.Author.Tests.{ltb-true, ltb-false, eqb-true, eqb-false}
 use Rattle.meaning.specs.Table.{mostRows}
 use Rattle.meaning.specs.Answers.{output}
 use Rattle.meaning.specs.declared.Answer.{Answer}
-use Rattle.decimal.specs.Decimal.{ascii, decimalAt, mostNumber}
+use Rattle.decimal.specs.Decimal.{ascii, decimalAt}
 use Rattle.decimal.specs.declared.Decimal.{Decimal}
 use Rattle.decimal.specs.declared.Decimal.the-variants.{Number, Nothing}
 use Rattle.files.specs.Files.{line, key, Form, good, bad, HasForm}
 use Rattle.files.specs.Answers.{reading, rowsIn, ReadsTable}
-use Rattle.files.specs.Parts.{begins, LineAt, Passed, HeadOf, formFrom}
+use Rattle.files.specs.Parts.{begins, LineAt, Passed, HeadOf}
 use Rattle.files.specs.declared.reader.Head.{Head}
 use Rattle.files.specs.declared.reader.Head.the-variants.{Rows, Bad}
 use Rattle.files.proofs.Keyed.{no-key, no-number, no-feed, line-found}
 use Rattle.files.proofs.Heads.{head-first, head-none, head-outside, head-rows}
-use Rattle.files.proofs.Passing.{passed-none, passed-more, head-bad, head-few}
+use Rattle.files.proofs.Passing.{passed-none, passed-more, head-bad}
 use Rattle.files.proofs.Forms.{bad-number, bad-last, good-file, form-unique}
 
 -- ---- a line

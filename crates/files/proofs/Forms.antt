@@ -3,20 +3,20 @@
 use Prim.Native.Nat.{ℕ, zero, suc, _+_, _*_, _%_, _<_, _≤_}
 use native.Mathlib.Omega.{arith}
 use native.Mathlib.Numerals.{add-one}
-use mathlib.Core.Path.{_≡_, refl, sym, ap, _∙_, subst}
-use mathlib.Core.Logic.{_⊎_, inl, inr, ⊎-elim}
-use mathlib.Core.Bool.{Bool, true, false, _&&_, not}
+use mathlib.Core.Path.{_≡_, refl, sym, ap, _∙_}
+use mathlib.Core.Logic.{_⊎_, ⊎-elim}
+use mathlib.Core.Bool.{false, not}
 use mathlib.Core.List.{List, [], _∷_, _++_, append-nil}
 use lib.ListN.{length, getD, take, drop, take-append-drop, drop-of-length-le, length-drop}
-use lib.Seq.{take-at, drop-at, take-append-le, take-take, take-add, take-nil, take-length, drop-cons, length-take-le}
+use lib.Seq.{take-at, drop-at, take-append-le, take-take, drop-cons, length-take-le}
 use lib.Dec.{T, ltb, leb, eqb, leb→le, eqb→eq}
-use borrow.Author.Tests.{ltb-false, le-ltb, eqb-true}
+use borrow.Author.Tests.{ltb-false, le-ltb}
 use Rattle.meaning.specs.Lists.{some}
 use Rattle.meaning.specs.Table.{rows, mostRows, lengthAllowed}
-use Rattle.meaning.proofs.Bools.{and-l, and-r, and-i, or-none-l, or-none-r, not-e, not-false, is-false, lt-or-ge, truly}
-use Rattle.decimal.specs.Decimal.{ascii, digits, mostNumber}
+use Rattle.meaning.proofs.Bools.{and-l, and-r, and-i, or-none-l, or-none-r, not-e, is-false, lt-or-ge}
+use Rattle.decimal.specs.Decimal.{ascii, mostNumber}
 use Rattle.files.specs.Files.{line, key, numberLines, tableLines, joined, bytesOf, linesOf, holdable, Form, good, bad, Begins, HasForm}
-use Rattle.files.specs.Parts.{keyed, linesBefore, Passed}
+use Rattle.files.specs.Parts.{linesBefore, Passed}
 use Rattle.files.proofs.Lines.{keyed-number, lines-line, lines-before, all-before, joined-lines, table-lines, numbers-same, drop-numbers, take-numbers, length-numbers}
 
 -- ---- rows that a file can hold

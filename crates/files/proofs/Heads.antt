@@ -6,7 +6,7 @@ use mathlib.Core.Path.{_≡_, refl, sym, ap, _∙_}
 use mathlib.Core.Logic.{_⊎_, ⊎-elim}
 use mathlib.Core.Bool.{true, false, true≢false}
 use mathlib.Core.List.{List, _++_, append-assoc}
-use lib.ListN.{length, drop, length-append}
+use lib.ListN.{length, drop}
 use Rattle.meaning.specs.Table.{mostRows}
 use Rattle.meaning.proofs.Bools.{lt-or-ge}
 use Rattle.decimal.specs.Decimal.{ascii, digits, digitsOf}

@@ -9,7 +9,7 @@ use mathlib.Core.List.{List, [], _∷_, _++_, append-assoc}
 use mathlib.Core.Logic.{⊎-elim}
 use lib.ListN.{length, getD, drop, drop-of-length-le, length-append, List·getD-eq-default}
 use lib.Seq.{drop-cons, drop-drop, drop-append-seam, getD-drop}
-use lib.Dec.{T, eqb}
+use lib.Dec.{eqb}
 use borrow.Author.Tests.{eqb-true, eqb-false, eq-eqb, ne-eqb}
 use Rattle.meaning.proofs.Bools.{is-true, is-false, lt-or-ge}
 use Rattle.decimal.specs.Decimal.{digits, leading, mostNumber, decimalAt}

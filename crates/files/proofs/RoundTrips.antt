@@ -18,7 +18,7 @@ use Rattle.meaning.proofs.Tables.{allowed}
 use Rattle.meaning.proofs.Exactly.{table-lets}
 use Rattle.decimal.specs.Decimal.{mostNumber}
 use Rattle.files.specs.Files.{bytesOf, holdable, Form, good, bad, HasForm}
-use Rattle.files.specs.Answers.{reading, rowsIn, writing, ReadsTable, WritesTable}
+use Rattle.files.specs.Answers.{reading, rowsIn, ReadsTable, WritesTable}
 use Rattle.files.proofs.Forms.{holdable-from, form-unique}
 use Rattle.files.proofs.Outcome.{read-short, read-broken, read-whole, write-whole}
 

@@ -7,9 +7,9 @@ use mathlib.Core.List.{List}
 use lib.ListN.{length}
 use Rattle.meaning.specs.Answers.{answer, output}
 use Rattle.meaning.specs.declared.Answer.{Answer}
-use Rattle.meaning.proofs.Unique.{Unique, unique-pair, unique-parts}
+use Rattle.meaning.proofs.Unique.{Unique, unique-parts}
 use Rattle.files.specs.Files.{bytesOf, Form}
-use Rattle.files.specs.Answers.{reading, rowsIn, writing, ReadsTable, WritesTable}
+use Rattle.files.specs.Answers.{reading, rowsIn, ReadsTable, WritesTable}
 use Rattle.files.proofs.Forms.{form-unique}
 
 pub read-table-unique : (file out : List ℕ) → Unique (λ (x : Answer × List ℕ). ReadsTable file out (x .0) (x .1))

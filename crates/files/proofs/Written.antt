@@ -1,12 +1,11 @@
 -- Laws of writing: the lengths of lines, and how lines are laid into an output one behind the other.
 -- Assumes nothing.
-use Prim.Native.Nat.{ℕ, suc, _+_, _-_, _*_, _/_, _%_, _<_, _≤_}
-use Prim.Native.String.{String}
+use Prim.Native.Nat.{ℕ, _+_, _-_, _%_, _≤_}
 use native.Mathlib.Omega.{arith}
-use mathlib.Core.Path.{_≡_, refl, sym, ap, _∙_}
+use mathlib.Core.Path.{_≡_, sym, _∙_}
 use mathlib.Core.Logic.{⊎-elim}
 use mathlib.Core.List.{List, [], _∷_, _++_, append-assoc, append-nil}
-use lib.ListN.{length, getD, take, drop, set, length-append, length-drop}
+use lib.ListN.{length, take, drop, set, length-append, length-drop}
 use lib.Seq.{take-length, take-all, drop-length, drop-drop}
 use borrow.Rule.Slice.PartMut.{putMid, post-is}
 use Rattle.meaning.specs.Table.{rows}
@@ -16,7 +15,7 @@ use Rattle.decimal.proofs.Laid.{length-laid, laid-laid, laid-one}
 use Rattle.files.specs.Files.{line, key, numberLines, joined, bytesOf}
 use Rattle.files.specs.Parts.{keyed, heading}
 use Rattle.meaning.proofs.Bools.{eq-or-ne}
-use Rattle.files.proofs.Lines.{key-kind, key-name, key-parent, key-size, joined-more, all-before}
+use Rattle.files.proofs.Lines.{key-kind, key-name, key-parent, key-size}
 
 -- ---- lengths
 

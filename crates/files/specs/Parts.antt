@@ -5,12 +5,12 @@ use mathlib.Core.Path.{_≡_}
 use mathlib.Core.Bool.{Bool, true, false, _&&_, cond}
 use mathlib.Core.List.{List, [], _∷_, _++_}
 use lib.ListN.{length, take, drop}
-use lib.Dec.{T, eqb, leb}
+use lib.Dec.{T, eqb}
 use Rattle.meaning.specs.Table.{rows, mostRows}
 use Rattle.decimal.specs.Decimal.{ascii, digits, mostNumber}
 use Rattle.decimal.specs.declared.Decimal.{Decimal}
 use Rattle.decimal.specs.declared.Decimal.the-variants.{Number, Nothing}
-use Rattle.files.specs.Files.{line, key, numberLines, tableLines, joined, holdable, Form, good, bad, HasForm}
+use Rattle.files.specs.Files.{line, numberLines, joined, holdable, Form, good, bad, HasForm}
 use Rattle.files.specs.declared.reader.Head.{Head}
 use Rattle.files.specs.declared.reader.Head.the-variants.{Rows, Bad}
 

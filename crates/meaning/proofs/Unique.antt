@@ -21,7 +21,7 @@ Unique {X} promise = (x y : X) → promise x → promise y → x ≡ y
 pub unique : {X : Type 0} (d : X) → Unique (λ x. x ≡ d)
 unique d x y p q = p ∙ sym q
 
-pub unique-pair : {A B : Type 0} (a : A) (b : B) → Unique (λ (x : A × B). (x .0 ≡ a) × (x .1 ≡ b))
+unique-pair : {A B : Type 0} (a : A) (b : B) → Unique (λ (x : A × B). (x .0 ≡ a) × (x .1 ≡ b))
 unique-pair a b x y p q = λ i. (unique a (x .0) (y .0) (p .0) (q .0) i, unique b (x .1) (y .1) (p .1) (q .1) i)
 
 -- and of one that speaks of an outcome in parts

@@ -1,11 +1,8 @@
 -- `decimal::is_plain` meets its contract: how many digits stand there tells apart the three ways out.
 -- Assumes nothing.
-use Prim.Native.Nat.{_+_, _<_}
 use native.Mathlib.Omega.{arith}
-use mathlib.Core.Path.{_≡_, sym, ap, _∙_}
-use lib.ListN.{length, drop}
+use mathlib.Core.Path.{sym, _∙_}
 use borrow.Author.Needs.{needs}
-use Rattle.decimal.specs.Decimal.{leading}
 use Rattle.decimal.proofs.Decimals.{plain-none, plain-one, plain-more, leading-first}
 use Rattle.decimal.proofs.is_plain.Statement.{statement}
 use Rattle.decimal.proofs.is_plain.Tie as tie

@@ -1,8 +1,8 @@
 -- `decimal::read` meets its contract. The loop's invariant is `Reading`; the measure is what is left of the text.
 -- Assumes nothing.
-use Prim.Native.Nat.{_+_, _-_, _<_, _≤_}
+use Prim.Native.Nat.{_-_, _<_}
 use native.Mathlib.Omega.{arith}
-use mathlib.Core.Path.{_≡_, sym, ap, _∙_}
+use mathlib.Core.Path.{_≡_, sym, _∙_}
 use mathlib.Core.Bool.{true}
 use lib.ListN.{length, getD}
 use borrow.Author.Needs.{needs}

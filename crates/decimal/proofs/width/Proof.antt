@@ -5,7 +5,6 @@ use Prim.Native.Nat.{_+_, _/_, _≤_}
 use native.Mathlib.Omega.{arith}
 use mathlib.Core.Path.{_≡_}
 use lib.ListN.{length}
-use borrow.Author.Needs.{needs}
 use Rattle.decimal.specs.Decimal.{digits}
 use Rattle.decimal.proofs.Decimals.{width-few, width-more, width-some, width-ten}
 use Rattle.decimal.proofs.width.Statement.{statement}

@@ -1,9 +1,9 @@
 -- `decimal::write` meets its contract. The loop's invariant: with the digits that are left laid where they belong, the slice would be what it
 -- is to be; the next one stands before those that are written. The measure is what is left of the number.
 -- Assumes nothing.
-use Prim.Native.Nat.{_+_, _/_, _%_, _<_, _≤_}
+use Prim.Native.Nat.{_+_, _/_, _%_, _<_}
 use native.Mathlib.Omega.{arith}
-use mathlib.Core.Path.{_≡_, refl, _∙_}
+use mathlib.Core.Path.{_≡_, refl}
 use mathlib.Core.List.{[], _∷_, _++_}
 use lib.ListN.{length, length-set}
 use borrow.Author.Needs.{needs}

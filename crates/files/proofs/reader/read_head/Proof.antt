@@ -1,12 +1,11 @@
 -- `files::reader::read_head` meets its contract: each way out by what was read of the two lines.
 -- Assumes nothing.
-use native.Mathlib.Omega.{arith}
 use mathlib.Core.Path.{_≡_, sym, _∙_}
 use mathlib.Core.Logic.{inl, inr, ⊎-elim}
 use mathlib.Core.Bool.{true}
 use borrow.Author.Needs.{needs}
 use borrow.Author.Tests.{not-true, not-false, ltb-true, ltb-false}
-use Rattle.files.specs.Parts.{begins, LineAt}
+use Rattle.files.specs.Parts.{begins}
 use Rattle.decimal.specs.Decimal.{ascii}
 use Rattle.files.proofs.Heads.{head-first, head-length, head-none, head-outside, head-rows}
 use Rattle.files.proofs.reader.read_head.Statement.{statement}

@@ -1,7 +1,6 @@
 -- `files::reader::read_into` meets its contract: the file's form, and for a good one what handing it over answers.
 -- Assumes nothing.
 use native.Mathlib.Omega.{arith}
-use mathlib.Core.Path.{_∙_}
 use borrow.Author.Needs.{needs}
 use Rattle.files.proofs.Passing.{passed-none, told-bad, told-good, good-holds}
 use Rattle.files.proofs.Outcome.{reads-bad, reads-good}

@@ -1,9 +1,9 @@
 -- `files::reader::read_numbers` meets its contract. The loop's invariant: the lines before number i have been read (`Passed`), of as many
 -- numbers as there are. The measure is what is left of the numbers.
 -- Assumes nothing.
-use Prim.Native.Nat.{_+_, _-_, _<_, _≤_}
+use Prim.Native.Nat.{_-_, _<_, _≤_}
 use native.Mathlib.Omega.{arith}
-use mathlib.Core.Path.{_≡_, refl, sym, ap, _∙_}
+use mathlib.Core.Path.{_≡_, refl}
 use lib.ListN.{length, length-set}
 use borrow.Author.Needs.{needs}
 use Rattle.files.specs.Parts.{Passed}

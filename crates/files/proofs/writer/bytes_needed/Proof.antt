@@ -1,7 +1,7 @@
 -- `files::writer::bytes_needed` meets its contract. The loop's invariant: the sum is the bytes of the lines before number i, of which a
 -- number's has at most 18. The measure is what is left of the numbers.
 -- Assumes nothing.
-use Prim.Native.Nat.{ℕ, _+_, _-_, _*_, _<_, _≤_}
+use Prim.Native.Nat.{ℕ, _+_, _-_, _*_, _≤_}
 use native.Mathlib.Omega.{arith}
 use mathlib.Core.Path.{_≡_, ap, _∙_}
 use mathlib.Core.List.{List}

@@ -1,8 +1,6 @@
 -- `files::writer::line_length` meets its contract: the line of a parent is two bytes longer than the others.
 -- Assumes nothing.
-use Prim.Native.Nat.{_≤_}
 use native.Mathlib.Omega.{arith}
-use mathlib.Core.Path.{_≡_}
 use mathlib.Core.Logic.{⊎-elim}
 use Rattle.files.proofs.Written.{line-parent, line-other}
 use borrow.Author.Needs.{needs}

@@ -1,7 +1,6 @@
 -- `files::writer::put` meets its contract: what is copied to the front of the part stands from its index on.
 -- Assumes nothing.
 use native.Mathlib.Omega.{arith}
-use mathlib.Core.Path.{_≡_}
 use Rattle.files.proofs.Written.{put-laid}
 use borrow.Author.Needs.{needs}
 use Rattle.files.proofs.writer.put.Statement.{statement}

@@ -1,11 +1,9 @@
 -- `files::writer::put_line` meets its contract: its three parts are laid one behind the other.
 -- Assumes nothing.
-use Prim.Native.Nat.{_+_, _<_}
 use native.Mathlib.Omega.{arith}
-use mathlib.Core.Path.{_≡_, _∙_}
-use lib.ListN.{length, length-set}
+use mathlib.Core.Path.{_∙_}
+use lib.ListN.{length-set}
 use Rattle.files.proofs.Written.{keyed-length, line-laid}
-use borrow.Author.Needs.{needs}
 use Rattle.files.proofs.writer.put_line.Statement.{statement}
 use Rattle.files.proofs.writer.put_line.Tie as tie
 

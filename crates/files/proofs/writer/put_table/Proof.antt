@@ -1,8 +1,6 @@
 -- `files::writer::put_table` meets its contract: the two first lines and those of the numbers are laid one behind the other.
 -- Assumes nothing.
-use Prim.Native.Nat.{_+_}
 use native.Mathlib.Omega.{arith}
-use mathlib.Core.Path.{_≡_}
 use Rattle.files.specs.Files.{line}
 use Rattle.files.proofs.Forms.{allowed-rows}
 use Rattle.files.proofs.Written.{bytes-length, table-laid}
