@@ -2,9 +2,10 @@ pub mod Lines
 pub mod Forms
 mod Keyed
 mod Heads
-mod Outcome
 mod Passing
 mod Written
+mod Small
+pub mod Outcome
 pub mod Computed
 pub mod Unique
 pub mod RoundTrips

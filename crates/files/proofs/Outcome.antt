@@ -3,14 +3,20 @@
 use Prim.Native.Nat.{ℕ, _<_, _≤_}
 use native.Mathlib.Omega.{arith}
 use mathlib.Core.Path.{_≡_, sym, _∙_}
+use mathlib.Core.Bool.{Bool, true, false, cond}
 use mathlib.Core.List.{List, _++_}
 use lib.ListN.{length, drop}
+use lib.Dec.{ltb}
 use borrow.Author.Tests.{lt-ltb, le-ltb, eq-eqb, ne-eqb}
+use Rattle.meaning.specs.Lists.{upTo, some, lowest}
+use Rattle.meaning.specs.Table.{rows, lengthAllowed, broken}
 use Rattle.meaning.specs.Answers.{answer, tableAnswer, tableChecks, output}
 use Rattle.meaning.specs.declared.Answer.{Answer}
+use Rattle.meaning.proofs.Bools.{is-true}
 use Rattle.meaning.proofs.Checks.{table-passes, table-stops}
-use Rattle.files.specs.Files.{bytesOf, good, bad, HasForm}
+use Rattle.files.specs.Files.{bytesOf, Form, good, bad, HasForm}
 use Rattle.files.specs.Answers.{needs, reading, rowsIn, writing, ReadsTable}
+use Rattle.files.proofs.Forms.{holdable-length}
 
 -- an answer, and an output that has what was to be written exactly if the answer's number is 0
 abbrev pub Answered : Answer → List ℕ → List ℕ → ℕ → ℕ → List ℕ → Type 0
@@ -38,6 +44,19 @@ pub short : (amount room : ℕ) (next : Answer) → room < amount → needs amou
 short amount room next h = rw (lt-ltb room amount h)
 
 -- ---- the reader
+
+-- it never gives 1, since the length of a good file's rows is allowed
+pub reads-no-1 : (file : List ℕ) (form : Form) (room : ℕ) → HasForm file form → reading form room .number ≡ 1 → ⊥
+unfolding HasForm reading tableChecks
+reads-no-1 file (bad k) room h e = omega arith
+reads-no-1 file (good t) room h e =
+    let a : lengthAllowed t ≡ true = is-true (lengthAllowed t) (holdable-length t (h .0)) in
+    go (ltb room (length t)) (some (broken t) (upTo (rows t))) (rw a at e)
+  where
+    go : (x y : Bool) → cond x (answer 21 (length t)) (cond y (answer 2 (lowest (broken t) (rows t))) (answer 0 (length t))) .number ≡ 1 → ⊥
+    go true y e = omega arith
+    go false true e = omega arith
+    go false false e = omega arith
 
 pub reads-bad : (file out : List ℕ) (k : ℕ) → HasForm file (bad k) → (number place : ℕ) → number ≡ 20 → place ≡ k → ReadsTable file out (answer number place) out
 unfolding reading

@@ -7,7 +7,7 @@ use mathlib.Core.Path.{_≡_, refl, sym, ap, _∙_}
 use mathlib.Core.Logic.{_⊎_, ⊎-elim}
 use mathlib.Core.Bool.{true}
 use mathlib.Core.List.{List, _++_}
-use lib.ListN.{length, getD, take, drop}
+use lib.ListN.{length, take, drop}
 use lib.Seq.{take-append-seam}
 use lib.Dec.{T}
 use Rattle.meaning.specs.Table.{accepted}
@@ -16,10 +16,10 @@ use Rattle.meaning.specs.declared.Answer.{Answer}
 use Rattle.meaning.proofs.Bools.{lt-or-ge, eq-or-ne}
 use Rattle.meaning.proofs.Tables.{allowed}
 use Rattle.meaning.proofs.Exactly.{table-lets}
-use Rattle.decimal.specs.Decimal.{mostNumber}
 use Rattle.files.specs.Files.{bytesOf, holdable, Form, good, bad, HasForm}
 use Rattle.files.specs.Answers.{reading, rowsIn, ReadsTable, WritesTable}
 use Rattle.files.proofs.Forms.{holdable-from, form-unique}
+use Rattle.files.proofs.Small.{numbers-small}
 use Rattle.files.proofs.Outcome.{read-short, read-broken, read-whole, write-whole}
 
 -- what stands at the front of an output that was written, and all of it
@@ -52,16 +52,16 @@ taken t room z =
 -- READING WHAT WAS WRITTEN GIVES THE SAME ROWS: an accepted table is written where there is room, and the bytes written, read where there is
 -- room, give the table
 pub read-written : (t out : List ℕ) (a : Answer) (out' : List ℕ) (room : List ℕ) (b : Answer) (room' : List ℕ)
-    → accepted t ≡ true → ((i : ℕ) → i < length t → getD t i 0 ≤ mostNumber) → length (bytesOf t) ≤ length out → length t ≤ length room
+    → accepted t ≡ true → length (bytesOf t) ≤ length out → length t ≤ length room
     → WritesTable t out a out' → ReadsTable (take (a .place) out') room b room'
     → (a ≡ answer 0 (length (bytesOf t))) × (b ≡ answer 0 (length t)) × (room' ≡ t ++ drop (length t) room)
 unfolding rowsIn
-read-written t out a out' room b room' acc fit h k (e, w) (form, f, r, v) =
+read-written t out a out' room b room' acc h k (e, w) (form, f, r, v) =
     let ok : tableAnswer t .number ≡ 0 = accepted-answer t acc in
     let done : a ≡ answer 0 (length (bytesOf t)) = e ∙ sym (write-whole t (length out) ok h) in
     let all : out' ≡ bytesOf t ++ drop (length (bytesOf t)) out = w ∙ written-output a (bytesOf t) out (ap (λ (a : Answer). a .number) done) in
     let bytes : take (a .place) out' ≡ bytesOf t = rw (done, all) (take-append-seam (bytesOf t) (drop (length (bytesOf t)) out)) in
-    let is : form ≡ good t = form-unique (bytesOf t) form (good t) (rw bytes at f) (good-bytes t (holdable-from t (allowed t acc) fit)) in
+    let is : form ≡ good t = form-unique (bytesOf t) form (good t) (rw bytes at f) (good-bytes t (holdable-from t (allowed t acc) (λ i l. omega (arith, numbers-small t acc i)))) in
     let read : b ≡ answer 0 (length t) = r ∙ ap (λ (x : Form). reading x (length room)) is ∙ sym (read-whole t (length room) k ok) in
     (done, read, v ∙ written-output b (rowsIn form) room (ap (λ (a : Answer). a .number) read) ∙ rw (ap rowsIn is))
 

@@ -36,6 +36,7 @@ unfoldable pub joined : List (List ℕ) → List ℕ
 joined [] = []
 joined (l ∷ more) = l ++ joined more
 
+-- the bytes of a table
 unfoldable pub bytesOf : List ℕ → List ℕ
 bytesOf t = joined (tableLines t)
 
@@ -57,7 +58,7 @@ linesOf (b ∷ s) = cond (eqb b 10) ((b ∷ []) ∷ linesOf s) (onto b (linesOf 
 unfoldable pub holdable : List ℕ → Bool
 holdable t = lengthAllowed t && not (some (ltb mostNumber) t)
 
--- a file is either good, and holds these rows, or has this first bad line
+-- the form of a file: it is good and holds these rows, or its first bad line has this number, from 1
 pub data Form : Type 0 where
   good : List ℕ → Form
   bad : ℕ → Form
@@ -66,7 +67,8 @@ pub data Form : Type 0 where
 abbrev pub Begins : List ℕ → ℕ → Type 0
 Begins file k = (t : List ℕ) × T (holdable t) × (take k (linesOf file) ≡ take k (tableLines t))
 
--- a file is good if it is the bytes of some rows; the first bad line is the first one at which it parts from every such file
+-- a file is good if it is the bytes of some rows; its first bad line is the first at which it parts from every such file: with the lines
+-- before it some file begins, and with it as well none does
 unfoldable pub HasForm : List ℕ → Form → Type 0
 HasForm file (good t) = T (holdable t) × (file ≡ bytesOf t)
 HasForm file (bad k) = ((j : ℕ) → j < k → Begins file j) × (Begins file k → ⊥)
