@@ -15,7 +15,7 @@ use Rattle.meaning.specs.Lists.{some}
 use Rattle.meaning.specs.Table.{rows, mostRows, lengthAllowed}
 use Rattle.meaning.proofs.Bools.{and-l, and-r, and-i, or-none-l, or-none-r, not-e, is-false, lt-or-ge}
 use Rattle.decimal.specs.Decimal.{ascii, mostNumber}
-use Rattle.files.specs.Files.{line, key, numberLines, tableLines, joined, bytesOf, linesOf, holdable, Form, good, bad, Begins, HasForm}
+use Rattle.files.specs.Files.{line, key, numberLines, tableLines, joined, bytesOf, linesOf, holdable, Form, good, bad, Opens, HasForm}
 use Rattle.files.specs.Parts.{linesBefore, Passed}
 use Rattle.files.proofs.Lines.{keyed-number, lines-line, lines-before, all-before, joined-lines, table-lines, numbers-same, drop-numbers, take-numbers, length-numbers}
 
@@ -88,16 +88,16 @@ behind-front k ls = rw add-one (go k ls)
     go (suc k) [] = refl
     go (suc k) (l ∷ ls) = go k ls
 
--- the lines before the k-th begin some file, and what follows begins no file with these: line k + 1 is the first bad one
+-- the first k lines open some file, and what follows opens none with them: line k + 1 is the first bad one
 pub parts : (file s : List ℕ) (before : List (List ℕ)) (k : ℕ) → length before ≡ k → linesOf file ≡ before ++ linesOf s
     → (t : List ℕ) → T (holdable t) → take k (tableLines t) ≡ before
     → ((t : List ℕ) → T (holdable t) → take k (tableLines t) ≡ before → take 1 (linesOf s) ≡ take 1 (drop k (tableLines t)) → ⊥)
     → HasForm file (bad (k + 1))
 unfolding HasForm
-parts file s before k n e t h b refuse = (begins, stops)
+parts file s before k n e t h b refuse = (opens, stops)
   where
-    begins : (j : ℕ) → j < k + 1 → Begins file j
-    begins j l =
+    opens : (j : ℕ) → j < k + 1 → Opens file j
+    opens j l =
         let a : take j (linesOf file) ≡ take j before = rw e (take-append-le j before (linesOf s) (omega arith)) in
         (t, h, a ∙ ap (λ (ls : List (List ℕ)). take j ls) (sym b) ∙ take-take j k (tableLines t) (omega arith))
 
@@ -107,7 +107,7 @@ parts file s before k n e t h b refuse = (begins, stops)
     rest : drop k (linesOf file) ≡ linesOf s
     rest = rw e (drop-at before (linesOf s) k n)
 
-    stops : Begins file (k + 1) → ⊥
+    stops : Opens file (k + 1) → ⊥
     stops (u, g, d) =
         let a : take k (tableLines u) ≡ before =
         sym (take-take k (k + 1) (tableLines u) (omega arith)) ∙ ap (λ (ls : List (List ℕ)). take k ls) (sym d) ∙ take-take k (k + 1) (linesOf file) (omega arith) ∙ front in
@@ -115,7 +115,7 @@ parts file s before k n e t h b refuse = (begins, stops)
         ap (λ (ls : List (List ℕ)). take 1 ls) (sym rest) ∙ sym (behind-front k (linesOf file)) ∙ ap (λ (ls : List (List ℕ)). drop k ls) d ∙ behind-front k (tableLines u) in
         refuse u g a c
 
--- a root alone can be held: some file begins with what every file begins with
+-- a root alone can be held: its file opens as every file does
 least : List ℕ
 least = 0 ∷ 0 ∷ 0 ∷ 0 ∷ []
 
@@ -211,14 +211,14 @@ bytes-same t u e =
     numbers-same 0 t u (cc)
 
 -- a good file parts from no line of its own
-good-begins : (file t : List ℕ) (k : ℕ) → HasForm file (good t) → Begins file k
+good-opens : (file t : List ℕ) (k : ℕ) → HasForm file (good t) → Opens file k
 unfolding HasForm
-good-begins file t k (h, e) = (t, h, ap (λ (ls : List (List ℕ)). take k ls) (ap linesOf e ∙ table-lines t))
+good-opens file t k (h, e) = (t, h, ap (λ (ls : List (List ℕ)). take k ls) (ap linesOf e ∙ table-lines t))
 
 pub form-unique : (file : List ℕ) (a b : Form) → HasForm file a → HasForm file b → a ≡ b
 unfolding HasForm
 form-unique file (good t) (good u) h k = ap good (bytes-same t u (sym (h .1) ∙ k .1))
-form-unique file (good t) (bad k) h (begins, stops) = absurd (stops (good-begins file t k h))
-form-unique file (bad k) (good t) (begins, stops) h = absurd (stops (good-begins file t k h))
-form-unique file (bad j) (bad k) (begins, stops) (begins', stops') =
-    ⊎-elim (λ (l : j < k). absurd (stops (begins' j l))) (λ (l : k ≤ j). ⊎-elim (λ (m : k < j). absurd (stops' (begins k m))) (λ (m : j ≤ k). ap bad (omega arith)) (lt-or-ge k j)) (lt-or-ge j k)
+form-unique file (good t) (bad k) h (opens, stops) = absurd (stops (good-opens file t k h))
+form-unique file (bad k) (good t) (opens, stops) h = absurd (stops (good-opens file t k h))
+form-unique file (bad j) (bad k) (opens, stops) (opens', stops') =
+    ⊎-elim (λ (l : j < k). absurd (stops (opens' j l))) (λ (l : k ≤ j). ⊎-elim (λ (m : k < j). absurd (stops' (opens k m))) (λ (m : j ≤ k). ap bad (omega arith)) (lt-or-ge k j)) (lt-or-ge j k)

@@ -63,12 +63,12 @@ pub data Form : Type 0 where
   good : List ℕ → Form
   bad : ℕ → Form
 
--- do the first k lines of a file begin the file of some rows?
-abbrev pub Begins : List ℕ → ℕ → Type 0
-Begins file k = (t : List ℕ) × T (holdable t) × (take k (linesOf file) ≡ take k (tableLines t))
+-- do the first k lines of a file open the file of some rows?
+abbrev pub Opens : List ℕ → ℕ → Type 0
+Opens file k = (t : List ℕ) × T (holdable t) × (take k (linesOf file) ≡ take k (tableLines t))
 
 -- a file is good if it is the bytes of some rows; its first bad line is the first at which it parts from every such file: with the lines
--- before it some file begins, and with it as well none does
+-- before it a file opens, and with it as well none does
 unfoldable pub HasForm : List ℕ → Form → Type 0
 HasForm file (good t) = T (holdable t) × (file ≡ bytesOf t)
-HasForm file (bad k) = ((j : ℕ) → j < k → Begins file j) × (Begins file k → ⊥)
+HasForm file (bad k) = ((j : ℕ) → j < k → Opens file j) × (Opens file k → ⊥)
