@@ -254,13 +254,16 @@ digits-read text i n next e = by (plain d && leb (number d) mostNumber) refl
 
 -- ---- the digits from an index on, one by one
 
--- a digit stands inside the text: 0, which is read past its end, is none
-pub digit-inside : (text : List ℕ) (i : ℕ) → isDigit (getD text i 0) ≡ true → i < length text
-digit-inside text i e =
+-- what 0 is not stands inside the text: past its end 0 is read
+pub stands-inside : (test : ℕ → Bool) (text : List ℕ) (i : ℕ) → test 0 ≡ false → test (getD text i 0) ≡ true → i < length text
+stands-inside test text i n e =
     ⊎-elim
     (λ (h : i < length text). h)
-    (λ (h : length text ≤ i). let z : isDigit 0 ≡ true = rw (List·getD-eq-default text 0 h) at e in absurd (true≢false (sym z)))
+    (λ (h : length text ≤ i). let z : test 0 ≡ true = rw (List·getD-eq-default text 0 h) at e in absurd (true≢false (sym z ∙ n)))
     (lt-or-ge i (length text))
+
+pub digit-inside : (text : List ℕ) (i : ℕ) → isDigit (getD text i 0) ≡ true → i < length text
+digit-inside text i e = stands-inside isDigit text i refl e
 
 -- a digit at index i is the first of those from i on
 pub leading-at : (text : List ℕ) (i : ℕ) → isDigit (getD text i 0) ≡ true → leading (drop i text) ≡ getD text i 0 ∷ leading (drop (i + 1) text)

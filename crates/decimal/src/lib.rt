@@ -19,7 +19,7 @@ fn digit_at(text: &[u8], i: usize) -> bool
 {
     if i < text.len() {
         let b = text[i];
-        48 <= b && b <= 57
+        b'0' <= b && b <= b'9'
     } else {
         false
     }
@@ -30,11 +30,11 @@ fn grown(n: u64, digit: u8) -> u64
     requires { ⌜ (n ≤ mostNumber + 1) × (48 ≤ digit) ⌝ }
     ensures { λ r. ⌜ r ≡ min (10 * n + (digit - 48)) (mostNumber + 1) ⌝ }
 {
-    let more = 10 * n + (digit - 48) as u64;
+    let more = 10 * n + (digit - b'0') as u64;
     if more < TOO_LARGE { more } else { TOO_LARGE }
 }
 
-// Are the digits before an index, as many as stand there, a decimal: some, and no leading zero but a `0` alone?
+// Are the digits from one index to before another, all that stand there, a decimal: some, and no leading zero but a `0` alone?
 fn is_plain(text: &[u8], at: usize, next: usize) -> bool
     requires { ⌜ next ≡ at + length (leading (drop at (now text))) ⌝ }
     ensures { λ r. ⌜ r ≡ plain (leading (drop at (now (text .entry)))) ⌝ }
@@ -46,7 +46,7 @@ fn is_plain(text: &[u8], at: usize, next: usize) -> bool
     if count == 1 {
         return true;
     }
-    text[at] != 48
+    text[at] != b'0'
 }
 
 // The decimal at an index of a text.
@@ -90,10 +90,10 @@ pub fn write(n: u32, out: &mut [u8], at: usize) -> usize
     let mut last = end - 1;
     let mut rest = n;
     while 10 <= rest {
-        out[last] = 48 + (rest % 10) as u8;
+        out[last] = b'0' + (rest % 10) as u8;
         rest /= 10;
         last -= 1;
     }
-    out[last] = 48 + rest as u8;
+    out[last] = b'0' + rest as u8;
     end
 }

@@ -6,15 +6,14 @@ use native.Mathlib.Numerals.{add-one}
 use mathlib.Core.Path.{_≡_, refl, sym, ap, _∙_}
 use mathlib.Core.Bool.{Bool, true, false, _&&_, true≢false}
 use mathlib.Core.List.{List, [], _∷_, _++_, append-assoc}
-use mathlib.Core.Logic.{⊎-elim}
-use lib.ListN.{length, getD, drop, drop-of-length-le, length-append, List·getD-eq-default}
+use lib.ListN.{length, getD, drop, drop-of-length-le, length-append}
 use lib.Seq.{drop-cons, drop-drop, drop-append-seam, getD-drop}
 use lib.Dec.{eqb}
 use borrow.Author.Tests.{eqb-true, eqb-false, eq-eqb, ne-eqb}
-use Rattle.meaning.proofs.Bools.{is-true, is-false, lt-or-ge}
+use Rattle.meaning.proofs.Bools.{is-true, is-false}
 use Rattle.decimal.specs.Decimal.{digits, leading, mostNumber, decimalAt}
 use Rattle.decimal.specs.declared.Decimal.the-variants.{Number, Nothing}
-use Rattle.decimal.proofs.Decimals.{read-digits, digits-read, leading-split}
+use Rattle.decimal.proofs.Decimals.{read-digits, digits-read, leading-split, stands-inside}
 use Rattle.files.specs.Parts.{begins, keyed, LineAt}
 
 -- ---- byte by byte, from index i of the word and index j of the text on
@@ -65,13 +64,9 @@ begins-append (b ∷ word) rest = rw (eq-eqb b b refl, begins-append word rest)
 stands-there : (text rest : List ℕ) (i b : ℕ) → drop i text ≡ b ∷ rest → getD text i 0 ≡ b
 stands-there text rest i b e = let z : i + 0 ≡ i = omega arith in rw z at (sym (getD-drop i text 0 0)) ∙ ap (λ (l : List ℕ). getD l 0 0) e
 
--- a line feed stands inside the text: 0, which is read past its end, is none
+-- a line feed stands inside the text
 pub feed-inside : (text : List ℕ) (i : ℕ) → eqb (getD text i 0) 10 ≡ true → i < length text
-feed-inside text i e =
-    ⊎-elim
-    (λ (h : i < length text). h)
-    (λ (h : length text ≤ i). let z : eqb 0 10 ≡ true = rw (List·getD-eq-default text 0 h) at e in absurd (true≢false (sym z)))
-    (lt-or-ge i (length text))
+feed-inside text i e = stands-inside (λ b. eqb b 10) text i refl e
 
 -- ---- the line of a key
 

@@ -46,21 +46,18 @@ keyed-number word n m r q e =
     sym (feed-number n r) ∙ ap (λ (l : List ℕ). number (leading l)) d ∙ feed-number m q
 
 -- the key of a number by its remainder
-pub key-kind : (i : ℕ) → i % 4 ≡ 0 → key i ≡ "kind"
+pub key-at : (i r : ℕ) → i % 4 ≡ r → key i ≡ key r
 unfolding key
-key-kind i e = rw e
+key-at i r e = let m : r % 4 ≡ r = omega arith in rw (e, m)
 
-pub key-name : (i : ℕ) → i % 4 ≡ 1 → key i ≡ "name"
-unfolding key
-key-name i e = rw e
-
-pub key-parent : (i : ℕ) → i % 4 ≡ 2 → key i ≡ "parent"
-unfolding key
-key-parent i e = rw e
-
-pub key-size : (i : ℕ) → (i % 4 ≡ 0 → ⊥) → (i % 4 ≡ 1 → ⊥) → (i % 4 ≡ 2 → ⊥) → key i ≡ "size"
-unfolding key
-key-size i a b c = rw (ne-eqb (i % 4) 0 a, ne-eqb (i % 4) 1 b, ne-eqb (i % 4) 2 c)
+pub last-key : (i : ℕ) → (i % 4 ≡ 0 → ⊥) → (i % 4 ≡ 1 → ⊥) → (i % 4 ≡ 2 → ⊥) → i % 4 ≡ 3
+last-key i a b c = by (i % 4) (omega arith) a b c
+  where
+    by : (r : ℕ) → r < 4 → (r ≡ 0 → ⊥) → (r ≡ 1 → ⊥) → (r ≡ 2 → ⊥) → r ≡ 3
+    by zero h a b c = absurd (a refl)
+    by (suc zero) h a b c = absurd (b refl)
+    by (suc (suc zero)) h a b c = absurd (c refl)
+    by (suc (suc (suc r))) h a b c = omega arith
 
 -- what holds of the four keys holds of every number's
 pub each-key : (P : String → Type 0) → P "kind" → P "name" → P "parent" → P "size" → (i : ℕ) → P (key i)

@@ -15,7 +15,7 @@ use Rattle.decimal.proofs.Laid.{length-laid, laid-laid, laid-one}
 use Rattle.files.specs.Files.{line, key, numberLines, joined, bytesOf}
 use Rattle.files.specs.Parts.{keyed, heading}
 use Rattle.meaning.proofs.Bools.{eq-or-ne}
-use Rattle.files.proofs.Lines.{key-kind, key-name, key-parent, key-size}
+use Rattle.files.proofs.Lines.{key-at, last-key}
 
 -- ---- lengths
 
@@ -36,18 +36,18 @@ heading-length t =
 
 -- the line of a parent is two bytes longer than the others
 pub line-parent : (i n : ℕ) → i % 4 ≡ 2 → length (line (key i) n) ≡ 8 + length (digits n)
-unfolding line
-line-parent i n e = rw (key-parent i e) (keyed-length (ascii "parent=") n ∙ omega arith)
+unfolding line key
+line-parent i n e = rw (key-at i 2 e) (keyed-length (ascii "parent=") n ∙ omega arith)
 
 pub line-other : (i n : ℕ) → (i % 4 ≡ 2 → ⊥) → length (line (key i) n) ≡ 6 + length (digits n)
-unfolding line
+unfolding line key
 line-other i n e =
     ⊎-elim
-    (λ (a : i % 4 ≡ 0). rw (key-kind i a) (keyed-length (ascii "kind=") n ∙ omega arith))
+    (λ (a : i % 4 ≡ 0). rw (key-at i 0 a) (keyed-length (ascii "kind=") n ∙ omega arith))
     (λ (a : i % 4 ≡ 0 → ⊥).
     ⊎-elim
-    (λ (b : i % 4 ≡ 1). rw (key-name i b) (keyed-length (ascii "name=") n ∙ omega arith))
-    (λ (b : i % 4 ≡ 1 → ⊥). rw (key-size i a b e) (keyed-length (ascii "size=") n ∙ omega arith))
+    (λ (b : i % 4 ≡ 1). rw (key-at i 1 b) (keyed-length (ascii "name=") n ∙ omega arith))
+    (λ (b : i % 4 ≡ 1 → ⊥). rw (key-at i 3 (last-key i a b e)) (keyed-length (ascii "size=") n ∙ omega arith))
     (eq-or-ne (i % 4) 1))
     (eq-or-ne (i % 4) 0)
 
