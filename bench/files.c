@@ -1,15 +1,17 @@
-/* files.c: times our reader and writer of table files beside plain C loops.
+/* files.c: times our reader and writer of table files beside plain C.
  *
  *   files [SHAPE]   SHAPE: the file of that shape of document alone
  *
  * Writes Markdown: for each shape the speed on the file of 4,096 rows, in
  * millions of the file's bytes a second, of reading and of writing. Ours
  * checks the table each time. The plain loops (plain.c) don't; they are timed
- * alone and with a call of bt_check_table. Each time is the least of nine
- * medians, taken in rounds through all six.
+ * alone and with a call of bt_check_table. The independent reader and writer
+ * (hosts/files.c), which check the table by the independent checker, come last.
+ * Each time is the least of nine medians, taken in rounds through all eight.
  */
 #include "bargetulip.h"
 #include "documents.h"
+#include "files.h"
 #include "plain.h"
 #include "timing.h"
 
@@ -18,7 +20,7 @@
 #include <stdlib.h>
 #include <string.h>
 
-enum { ROWS = 4096, NUMBERS = 4 * ROWS, FILE_ROOM = 18 * (2 + NUMBERS), WAYS = 3 };
+enum { ROWS = 4096, NUMBERS = 4 * ROWS, FILE_ROOM = 18 * (2 + NUMBERS), OURS = 0, PLAIN_AND_CHECK = 2, WAYS = 4 };
 
 /* a table and its file, and what the last run wrote */
 struct state {
@@ -50,6 +52,13 @@ static size_t read_plain_and_check(void *state)
     return bt_check_table(s->numbers, read, &place) == BT_DONE ? read : 0;
 }
 
+static size_t read_independent(void *state)
+{
+    struct state *s = state;
+    uint64_t place;
+    return ref_read_table(s->file, s->file_len, s->numbers, NUMBERS, &place) == BT_DONE ? place : 0;
+}
+
 static size_t write_ours(void *state)
 {
     struct state *s = state;
@@ -70,10 +79,17 @@ static size_t check_and_write_plain(void *state)
     return bt_check_table(s->table, NUMBERS, &place) == BT_DONE ? write_plain(s) : 0;
 }
 
-/* reading and writing, each in three ways: ours, a plain loop, a plain loop and a check */
+static size_t write_independent(void *state)
+{
+    struct state *s = state;
+    uint64_t place;
+    return ref_write_table(s->table, NUMBERS, s->bytes, FILE_ROOM, &place) == BT_DONE ? place : 0;
+}
+
+/* reading and writing, each in four ways: ours, a plain loop, a plain loop and a check, the independent one */
 static const struct task { const char *name; size_t (*run[WAYS])(void *state); } tasks[] = {
-    {"read", {read_ours, read_plain, read_plain_and_check}},
-    {"write", {write_ours, write_plain, check_and_write_plain}},
+    {"read", {read_ours, read_plain, read_plain_and_check, read_independent}},
+    {"write", {write_ours, write_plain, check_and_write_plain, write_independent}},
 };
 
 enum { TASKS = sizeof tasks / sizeof *tasks };
@@ -104,7 +120,7 @@ static void print_row(enum shape shape, const struct task *task, size_t file_len
     printf("| %s | %s | %lu |", shape_names[shape], task->name, (unsigned long)file_len);
     for (int way = 0; way < WAYS; way++)
         printf(" %.0f MB/s |", (double)file_len / seconds[way] / 1e6);
-    printf(" %.2f |\n", seconds[0] / seconds[WAYS - 1]);
+    printf(" %.2f |\n", seconds[OURS] / seconds[PLAIN_AND_CHECK]);
 }
 
 /* times all ways of both tasks on the file of a shape; false if one of them is wrong */
@@ -130,8 +146,9 @@ int main(int argc, char **argv)
 {
     bool right = true;
     printf("\n### table files\n\n"
-           "| shape | | bytes | ours | plain C | plain C and bt_check_table | time: ours / plain C and check |\n"
-           "|---|---|--:|--:|--:|--:|--:|\n");
+           "| shape | | bytes | ours | plain C | plain C and bt_check_table | the independent one "
+           "| time: ours / plain C and check |\n"
+           "|---|---|--:|--:|--:|--:|--:|--:|\n");
     for (int shape = 0; shape < SHAPES; shape++)
         if (argc < 2 || strcmp(argv[1], shape_names[shape]) == 0)
             right = run_shape((enum shape)shape) && right;
