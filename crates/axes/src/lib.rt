@@ -6,14 +6,16 @@ use basics::both;
 use basics::either;
 use basics::entry;
 use basics::same;
+use meaning::LAST_AXIS;
 use table::kind_at;
 use table::name_at;
 ghost use mathlib.Core.Path.{_≡_};
 ghost use Prim.Native.Nat.{_-_, _<_};
 ghost use lib.ListN.{getD};
-ghost use Rattle.meaning.specs.Table.{rows, parentOf, end};
-ghost use Rattle.meaning.specs.Axis.{inside, on, axisOf, passes, testOf, isReverse, ordered};
-ghost use Rattle.meaning.specs.Axis.Axis.{child, following, following-sibling};
+ghost use Rattle.meaning.specs.Table.{rows, parentOf, end, isAttribute};
+ghost use Rattle.meaning.specs.Axis.{under, inside, after, on, axisOf, passes, testOf, isReverse, ordered};
+ghost use Rattle.meaning.specs.Axis.Axis.{descendant, following-sibling};
+ghost use Rattle.meaning.specs.Axis.Test.{named};
 
 // The parent of any number, and the end of its subtree: of no row both read 0 for what is stored.
 fn any_parent(table: &[u32], i: usize) -> usize
@@ -30,15 +32,23 @@ fn any_end(table: &[u32], i: usize) -> usize
     i + entry(table, 4 * i + 3)
 }
 
-// Is y a child of x? Row 0 is nobody's child.
-fn is_child(table: &[u32], x: usize, y: usize) -> bool
+// Is any number an attribute's?
+fn any_attribute(table: &[u32], i: usize) -> bool
+    requires { ⌜ i < 4294967296 ⌝ }
+    ensures { λ r. ⌜ r ≡ isAttribute (now (table .entry)) i ⌝ }
+{
+    same(entry(table, 4 * i), 5)
+}
+
+// Is x the parent of y? Row 0 has none.
+fn is_under(table: &[u32], x: usize, y: usize) -> bool
     requires { ⌜ y < 4294967296 ⌝ }
-    ensures { λ r. ⌜ r ≡ on (now (table .entry)) child x y ⌝ }
+    ensures { λ r. ⌜ r ≡ under (now (table .entry)) x y ⌝ }
 {
     both(below(0, y), same(any_parent(table, y), x))
 }
 
-// Is y a descendant of x?
+// Does y stand inside x?
 fn is_inside(table: &[u32], x: usize, y: usize) -> bool
     requires { ⌜ x < 4294967296 ⌝ }
     ensures { λ r. ⌜ r ≡ inside (now (table .entry)) x y ⌝ }
@@ -46,39 +56,52 @@ fn is_inside(table: &[u32], x: usize, y: usize) -> bool
     both(below(x, y), at_most(y, any_end(table, x)))
 }
 
-// Is y later than x and not a descendant of it?
+// Is y later than x and not inside it?
 fn is_after(table: &[u32], x: usize, y: usize) -> bool
     requires { ⌜ x < 4294967296 ⌝ }
-    ensures { λ r. ⌜ r ≡ on (now (table .entry)) following x y ⌝ }
+    ensures { λ r. ⌜ r ≡ after (now (table .entry)) x y ⌝ }
 {
     both(below(x, y), !is_inside(table, x, y))
 }
 
-// Is y a later sibling of x? Row 0 has no siblings.
+// Is y a later sibling of x? Row 0 has no siblings, and no attribute has.
 fn is_later_sibling(table: &[u32], x: usize, y: usize) -> bool
     requires { ⌜ (x < 4294967296) × (y < 4294967296) ⌝ }
     ensures { λ r. ⌜ r ≡ on (now (table .entry)) following-sibling x y ⌝ }
 {
     let later = both(below(0, x), below(x, y));
-    both(later, same(any_parent(table, x), any_parent(table, y)))
+    let of_one = both(later, same(any_parent(table, x), any_parent(table, y)));
+    both(
+        both(of_one, !any_attribute(table, y)),
+        !any_attribute(table, x),
+    )
 }
 
-// Is y on the axis of x? A number above 10 reads as axis 0.
+// Is y a descendant of x? Attributes are none.
+fn is_descendant(table: &[u32], x: usize, y: usize) -> bool
+    requires { ⌜ (x < 4294967296) × (y < 4294967296) ⌝ }
+    ensures { λ r. ⌜ r ≡ on (now (table .entry)) descendant x y ⌝ }
+{
+    both(is_inside(table, x, y), !any_attribute(table, y))
+}
+
+// Is y on the axis of x? A number above 11 reads as axis 0.
 pub fn holds(table: &[u32], axis: usize, x: usize, y: usize) -> bool
     requires { ⌜ (x < 4294967296) × (y < 4294967296) ⌝ }
     ensures { λ r. ⌜ r ≡ on (now (table .entry)) (axisOf axis) x y ⌝ }
 {
     match axis {
-        1 => is_child(table, x, y),
-        2 => is_child(table, y, x),
-        3 => is_inside(table, x, y),
+        1 => both(is_under(table, x, y), !any_attribute(table, y)),
+        2 => is_under(table, y, x),
+        3 => is_descendant(table, x, y),
         4 => is_inside(table, y, x),
-        5 => either(same(x, y), is_inside(table, x, y)),
+        5 => either(same(x, y), is_descendant(table, x, y)),
         6 => either(same(x, y), is_inside(table, y, x)),
-        7 => is_after(table, x, y),
-        8 => is_after(table, y, x),
+        7 => both(is_after(table, x, y), !any_attribute(table, y)),
+        8 => both(is_after(table, y, x), !any_attribute(table, y)),
         9 => is_later_sibling(table, x, y),
         10 => is_later_sibling(table, y, x),
+        11 => both(is_under(table, x, y), any_attribute(table, y)),
         _ => same(x, y),
     }
 }
@@ -98,28 +121,35 @@ pub fn nth(reverse: bool, n: usize, i: usize) -> usize
     if reverse { n - 1 - i } else { i }
 }
 
-// Does node y pass the test with this number?
-pub fn passes_test(table: &[u32], test: usize, y: usize) -> bool
+// The kind that `*` and names match on the axis: attributes on the attribute axis, elements on all others.
+pub fn principal(axis: usize) -> usize
+    ensures { λ r. ⌜ r ≡ Rattle.meaning.specs.Axis.principal (axisOf axis) ⌝ }
+{
+    if axis == LAST_AXIS { 5 } else { 1 }
+}
+
+// Does node y pass the test with this number, where `*` and names match this kind?
+pub fn passes_test(table: &[u32], kind: usize, test: usize, y: usize) -> bool
     requires { ⌜ y < rows (now table) ⌝ }
-    ensures { λ r. ⌜ r ≡ passes (now (table .entry)) (testOf test) y ⌝ }
+    ensures { λ r. ⌜ r ≡ passes (now (table .entry)) kind (testOf test) y ⌝ }
 {
     match test {
         0 => true,
-        1 => same(kind_at(table, y), 1),
+        1 => same(kind_at(table, y), kind),
         2 => same(kind_at(table, y), 2),
         3 => same(kind_at(table, y), 3),
         4 => same(kind_at(table, y), 4),
-        _ => is_named(table, test, y),
+        _ => is_named(table, kind, test, y),
     }
 }
 
-// Is node y an element whose name the test asks for?
-fn is_named(table: &[u32], test: usize, y: usize) -> bool
+// Is node y of this kind, with the name that the test asks for?
+fn is_named(table: &[u32], kind: usize, test: usize, y: usize) -> bool
     requires { ⌜ y < rows (now table) ⌝ }
-    ensures { λ r. ⌜ r ≡ passes (now (table .entry)) (Rattle.meaning.specs.Axis.Test.element (test - 16)) y ⌝ }
+    ensures { λ r. ⌜ r ≡ passes (now (table .entry)) kind (named (test - 16)) y ⌝ }
 {
     both(
-        same(kind_at(table, y), 1),
+        same(kind_at(table, y), kind),
         same(name_at(table, y), less(test, 16)),
     )
 }

@@ -4,14 +4,19 @@ use axes::holds;
 use axes::is_reverse;
 use axes::nth;
 use axes::passes_test;
+use axes::principal;
 use basics::both;
+use basics::either;
+use basics::same;
 use table::end_at;
+use table::is_attribute;
 use table::row_count;
 ghost use mathlib.Core.Path.{_≡_};
 ghost use Prim.Native.Nat.{_+_, _<_, _≤_, min};
 ghost use lib.ListN.{length, take};
-ghost use lib.Seq.{slice};
-ghost use Rattle.meaning.specs.Lists.{upTo, keep};
+ghost use mathlib.Core.Bool.{_&&_};
+ghost use Rattle.meaning.specs.Lists.{keep};
+ghost use Rattle.meaning.proofs.Ranges.{range, ownOrPlain};
 ghost use Rattle.meaning.specs.Table.{rows, mostRows, end};
 ghost use Rattle.meaning.specs.Axis.{axisOf, testOf, passes, candidates};
 ghost use Rattle.meaning.specs.Axis.Axis.{descendant, descendant-or-self};
@@ -35,11 +40,12 @@ fn list_by_scan(table: &[u32], axis: usize, test: usize, x: usize, list: &mut [u
 {
     let n = row_count(table);
     let reverse = is_reverse(axis);
+    let kind = principal(axis);
     let mut m = 0;
     let mut i = 0;
     while i < n {
         let y = nth(reverse, n, i);
-        if both(holds(table, axis, x, y), passes_test(table, test, y)) {
+        if both(holds(table, axis, x, y), passes_test(table, kind, test, y)) {
             list[m] = y as u32;
             m += 1;
         }
@@ -54,7 +60,7 @@ fn list_descendants(table: &[u32], test: usize, x: usize, list: &mut [u32]) -> u
     ensures { λ r. ⌜ (take r (now (list .exit)) ≡ candidates (now (table .entry)) descendant (testOf test) x) × (r ≤ rows (now (table .entry))) ⌝ }
 {
     let past = past_subtree(table, x);
-    list_range(table, test, x + 1, past, list)
+    list_range(table, x, test, x + 1, past, list)
 }
 
 // Those of the descendant-or-self axis: the same, and x before them.
@@ -63,7 +69,7 @@ fn list_subtree(table: &[u32], test: usize, x: usize, list: &mut [u32]) -> usize
     ensures { λ r. ⌜ (take r (now (list .exit)) ≡ candidates (now (table .entry)) descendant-or-self (testOf test) x) × (r ≤ rows (now (table .entry))) ⌝ }
 {
     let past = past_subtree(table, x);
-    list_range(table, test, x, past, list)
+    list_range(table, x, test, x, past, list)
 }
 
 // One past the last row of x's subtree, or the number of rows where that is less or x is no row.
@@ -79,15 +85,23 @@ fn past_subtree(table: &[u32], x: usize) -> usize
     if past < n { past } else { n }
 }
 
-// Writes the rows from one to before another that pass the test to the front of the list.
-fn list_range(table: &[u32], test: usize, from: usize, to: usize, list: &mut [u32]) -> usize
+// Writes the rows from one to before another that pass the test, attributes other than x left out, to the front of the list.
+fn list_range(
+    table: &[u32],
+    x: usize,
+    test: usize,
+    from: usize,
+    to: usize,
+    list: &mut [u32],
+) -> usize
     requires { ⌜ (rows (now table) ≤ mostRows) × (to ≤ rows (now table)) × (rows (now table) ≤ length (now list)) ⌝ }
-    ensures { λ r. ⌜ (take r (now (list .exit)) ≡ keep (passes (now (table .entry)) (testOf test)) (slice from to (upTo (rows (now (table .entry)))))) × (r ≤ rows (now (table .entry))) ⌝ }
+    ensures { λ r. ⌜ (take r (now (list .exit)) ≡ keep (λ y. ownOrPlain (now (table .entry)) x y && passes (now (table .entry)) 1 (testOf test) y) (range (rows (now (table .entry))) from to)) × (r ≤ rows (now (table .entry))) ⌝ }
 {
     let mut m = 0;
     let mut y = from;
     while y < to {
-        if passes_test(table, test, y) {
+        let on_axis = either(same(x, y), !is_attribute(table, y));
+        if both(on_axis, passes_test(table, 1, test, y)) {
             list[m] = y as u32;
             m += 1;
         }

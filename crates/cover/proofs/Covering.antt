@@ -28,7 +28,7 @@ module _ (t p : List ℕ) (l : ℕ) where
 
   -- those before it, then its axis and its test; what they reach is near too
   pub covered-row : (some-row : (l ≡ 0) → ⊥) (a c d : ℕ) → a ≡ firstLink p (l - 1) → c ≡ indexOrAxis p (l - 1) → d ≡ testAt p (l - 1) → (entry mid hits exit before between after : List Bool)
-      → Covered t (tree p a) entry mid before between → Hits t (axisOf c) mid hits → Sifted t d hits exit → Joined t exit between after → Covered t (tree p l) entry exit before after
+      → Covered t (tree p a) entry mid before between → Hits t (on t (axisOf c)) mid hits → Sifted t c d hits exit → Joined t exit between after → Covered t (tree p l) entry exit before after
   unfolding Hits hit Sifted Joined
   covered-row some-row a c d is-first e f entry mid hits exit before between after first h s j = record { reached = marked; kept = λ y k r. more y k (first .kept y k r); covers = near }
     where

@@ -29,7 +29,7 @@ fn cover(table: &[u32], path: &[u32], link: usize, marks: &mut [bool], near: &mu
     let axis = index_or_axis(path, row);
     reach(table, axis, marks);
     let test = test_at(path, row);
-    sift(table, test, marks);
+    sift(table, axis, test, marks);
     join(table, marks, near);
 }
 

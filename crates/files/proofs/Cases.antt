@@ -6,7 +6,7 @@ use Prim.Native.String.{String}
 use mathlib.Core.Path.{_≡_, refl}
 use mathlib.Core.List.{List, [], _∷_, map}
 use Rattle.meaning.specs.Lists.{upTo, some, lowest}
-use Rattle.meaning.specs.Table.{lengthAllowed, hasElement, goodRoot, goodName, goodSize, nearest, goodParent, textOfRoot, elementOfRoot, laterElement, previousSibling, textAfterText, goodRow, broken}
+use Rattle.meaning.specs.Table.{lengthAllowed, hasElement, goodRoot, goodName, goodSize, nearest, goodParent, textOfRoot, elementOfRoot, laterElement, previousSibling, textAfterText, goodRow, broken, strayAttribute, attributeAgain, amongAttributes, sameAttribute}
 use Rattle.meaning.specs.Answers.{answer, tableChecks}
 use Rattle.meaning.specs.declared.Answer.{Answer}
 use Rattle.decimal.specs.Decimal.{ascii, digitsOf, digits, leading, numberFrom, plain, decimalAt}
@@ -67,5 +67,5 @@ cases =
 
 -- the definitions give what the documents list
 pub files-of-the-readings : map given cases ≡ map listed cases
-unfolding reading formOf fromHead headOf counted numbersFrom onwards lineAt ended begins decimalAt leading numberFrom plain key tableChecks lengthAllowed some upTo lowest broken goodRoot hasElement goodRow goodName goodSize goodParent nearest textOfRoot laterElement elementOfRoot textAfterText previousSibling
+unfolding reading formOf fromHead headOf counted numbersFrom onwards lineAt ended begins decimalAt leading numberFrom plain key tableChecks lengthAllowed some upTo lowest broken goodRoot hasElement goodRow goodName goodSize goodParent nearest textOfRoot laterElement elementOfRoot textAfterText previousSibling strayAttribute attributeAgain amongAttributes sameAttribute
 files-of-the-readings = refl

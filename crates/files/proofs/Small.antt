@@ -16,7 +16,7 @@ use Rattle.files.proofs.Forms.{allowed-rows}
 -- a name is at most 65,535
 good-name : (k n : ℕ) → T (goodName k n) → n ≤ 65535
 unfolding goodName
-good-name k n h = by (eqb k 1 || eqb k 4) h
+good-name k n h = by (eqb k 1 || eqb k 4 || eqb k 5) h
   where
     by : (b : Bool) → T (cond b (leb 1 n && leb n 65535) (eqb n 0)) → n ≤ 65535
     by true h = leb→le n 65535 (and-r (leb 1 n) (leb n 65535) h)
@@ -48,13 +48,13 @@ module _ (t : List ℕ) (acc : accepted t ≡ true) where
   unfolding Small goodRow
   other-small i p h =
       let g : T (goodRow t i) = row-holds t (rows t) (whole t acc) i p h in
-      let k : T (leb (kind t i) 4) = search (and-l, and-r) depth 9 in
+      let k : T (leb (kind t i) 5) = search (and-l, and-r) depth 9 in
       let n : T (goodName (kind t i) (name t i)) = search (and-l, and-r) depth 9 in
       let c = child t acc i p h in
       let f = few-rows t acc in
       let r = root-end in
       let e : end t i ≤ end t 0 = nest t acc 0 i h p (omega arith) in
-      (omega (arith, leb→le (kind t i) 4 k), good-name (kind t i) (name t i) n, omega (arith, c .below), omega arith)
+      (omega (arith, leb→le (kind t i) 5 k), good-name (kind t i) (name t i) n, omega (arith, c .below), omega arith)
 
   row-small : (i : ℕ) → i < rows t → Small i
   row-small zero h = root-small

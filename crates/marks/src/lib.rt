@@ -1,5 +1,6 @@
 // A set of nodes as marks: mark y says whether node y is in the set. Lists of nodes are the marked rows, ascending.
 use axes::passes_test;
+use axes::principal;
 use basics::both;
 use basics::either;
 use basics::given;
@@ -58,18 +59,19 @@ pub fn copy_marks(table: &[u32], from: &[bool], to: &mut [bool])
     }
 }
 
-// Of the marked rows those stay marked that pass the test. Every row passes test 0.
-pub fn sift(table: &[u32], test: usize, marks: &mut [bool])
+// Of the marked rows those stay marked that pass the test of a step on this axis. Every row passes test 0.
+pub fn sift(table: &[u32], axis: usize, test: usize, marks: &mut [bool])
     requires { ⌜ (rows (now table) ≤ mostRows) × (rows (now table) ≤ length (now marks)) ⌝ }
-    ensures { λ _. ⌜ Sifted (now (table .entry)) test (now (marks .entry)) (now (marks .exit)) ⌝ }
+    ensures { λ _. ⌜ Sifted (now (table .entry)) axis test (now (marks .entry)) (now (marks .exit)) ⌝ }
 {
     if test == 0 {
         return;
     }
+    let kind = principal(axis);
     let n = row_count(table);
     let mut i = 0;
     while i < n {
-        marks[i] = both(marks[i], passes_test(table, test, i));
+        marks[i] = both(marks[i], passes_test(table, kind, test, i));
         i += 1;
     }
 }

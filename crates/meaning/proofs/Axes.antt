@@ -3,20 +3,20 @@
 use Prim.Native.Nat.{ℕ, zero, suc, _<_, _≤_}
 use mathlib.Core.Path.{_≡_, refl, sym, subst, _∙_}
 use mathlib.Core.Logic.{inl, inr}
-use mathlib.Core.Bool.{Bool, true, false, _&&_, _||_}
+use mathlib.Core.Bool.{Bool, true, false, _&&_, _||_, and-true}
 use mathlib.Core.List.{List}
 use borrow.Author.Tests.{lt-ltb}
 use lib.Dec.{T, leb, ltb, eqb, ltb→lt, leb→le, eqb→eq, lt→ltb, le→leb}
 use native.Mathlib.Omega.{arith}
 use native.Mathlib.Nat.{eq-or-lt-of-le}
 use Rattle.meaning.specs.Table.{parentOf, rows, end, accepted}
-use Rattle.meaning.specs.Axis.{Axis, inside, on}
+use Rattle.meaning.specs.Axis.{Axis, under, inside, on, principal}
 use Rattle.meaning.specs.Axis as A
 use Rattle.meaning.proofs.Bools.{and-l, and-r, and-i, or-e, or-i-l, or-i-r, eqb-sym, eq→eqb, same, lt-or-ge}
-use Rattle.meaning.proofs.Tables.{Child, child, nest}
+use Rattle.meaning.proofs.Tables.{Plain, Child, child, nest}
 use Rattle.meaning.proofs.Places.{placed, placed-on}
 
--- the inverse of an axis
+-- the inverse of an axis; attribute has none
 unfoldable pub inverse : Axis → Axis
 inverse A.self = A.self
 inverse A.child = A.parent
@@ -29,24 +29,27 @@ inverse A.following = A.preceding
 inverse A.preceding = A.following
 inverse A.following-sibling = A.preceding-sibling
 inverse A.preceding-sibling = A.following-sibling
+inverse A.attribute = A.self
 
--- a node has a place on an axis of another exactly if the other has one on the inverse axis of it
-pub inverse-axis : (t : List ℕ) (a : Axis) (x y : ℕ) → x < rows t → y < rows t → placed t a x y ≡ placed t (inverse a) y x
-unfolding on inverse
-inverse-axis t a x y h k = rw (placed-on t a x y k, placed-on t (inverse a) y x h) (by a)
+-- of two nodes that are no attributes one has a place on an axis of the other, which is not the attribute axis, exactly if the other has one
+-- on the inverse axis of it
+pub inverse-axis : (t : List ℕ) (a : Axis) → principal a ≡ 1 → (x y : ℕ) → Plain t x → Plain t y → placed t a x y ≡ placed t (inverse a) y x
+unfolding on inverse principal
+inverse-axis t a usual x y h k = rw (placed-on t a x y (k .0), placed-on t (inverse a) y x (h .0)) (by a usual)
   where
-    by : (a : Axis) → on t a x y ≡ on t (inverse a) y x
-    by A.self = eqb-sym x y
-    by A.child = refl
-    by A.parent = refl
-    by A.descendant = refl
-    by A.ancestor = refl
-    by A.descendant-or-self = rw (eqb-sym x y)
-    by A.ancestor-or-self = rw (eqb-sym x y)
-    by A.following = refl
-    by A.preceding = refl
-    by A.following-sibling = refl
-    by A.preceding-sibling = refl
+    by : (a : Axis) → principal a ≡ 1 → on t a x y ≡ on t (inverse a) y x
+    by A.self e = eqb-sym x y
+    by A.child e = rw (k .1) (and-true (under t x y))
+    by A.parent e = rw (h .1) (sym (and-true (under t y x)))
+    by A.descendant e = rw (k .1) (and-true (inside t x y))
+    by A.ancestor e = rw (h .1) (sym (and-true (inside t y x)))
+    by A.descendant-or-self e = rw (eqb-sym x y, k .1, and-true (inside t x y))
+    by A.ancestor-or-self e = rw (eqb-sym x y, h .1, and-true (inside t y x))
+    by A.following e = rw (h .1, k .1)
+    by A.preceding e = rw (h .1, k .1)
+    by A.following-sibling e = refl
+    by A.preceding-sibling e = refl
+    by A.attribute e = absurd (omega arith)
 
 -- is y the parent of x, or its parent's parent, and so on, k steps at most?
 unfoldable pub above : List ℕ → ℕ → ℕ → ℕ → Bool
@@ -56,7 +59,7 @@ above t (suc k) x y = on t A.parent x y || (ltb 0 x && above t k (parentOf t x) 
 module _ (t : List ℕ) (acc : accepted t ≡ true) where
   -- a node's ancestors are its parent and its parent's ancestors
   ancestor-step : (x y : ℕ) → 0 < x → x < rows t → on t A.ancestor x y ≡ (on t A.parent x y || on t A.ancestor (parentOf t x) y)
-  unfolding on inside
+  unfolding on under inside
   ancestor-step x y p h = same (on t A.ancestor x y) (on t A.parent x y || on t A.ancestor (parentOf t x) y)
       (λ k.
       let a : y < x = ltb→lt y x (and-l (ltb y x) (leb x (end t y)) k) in
@@ -79,7 +82,7 @@ module _ (t : List ℕ) (acc : accepted t ≡ true) where
       c = child t acc x p h
 
   root-alone : (k y : ℕ) → on t A.ancestor 0 y ≡ above t k 0 y
-  unfolding on inside above
+  unfolding on under inside above
   root-alone zero y = same (ltb y 0 && leb 0 (end t y)) false (λ h. absurd (omega (arith, ltb→lt y 0 (and-l (ltb y 0) (leb 0 (end t y)) h)))) (λ h. absurd h)
   root-alone (suc k) y = same (ltb y 0 && leb 0 (end t y)) false (λ h. absurd (omega (arith, ltb→lt y 0 (and-l (ltb y 0) (leb 0 (end t y)) h)))) (λ h. absurd h)
 

@@ -1,5 +1,5 @@
--- Whether a path whose steps do not count selects anything, for every node at once: backwards, with inverse axes, from the
--- nodes that fit its last step. What holds somewhere in a union holds, one step earlier, from some node of the set: two
+-- Whether a path whose steps do not count selects anything, for every node at once: backwards, from the nodes that fit its last
+-- step to those that have one of them on its axis. What holds somewhere in a union holds, one step earlier, from some node of the set: two
 -- quantifiers are exchanged at each step, by induction over the chain. Then the truths that narrow a set, by their op.
 -- Assumes nothing.
 use Prim.Native.Nat.{ℕ, _-_, _<_}
@@ -7,26 +7,25 @@ use mathlib.Core.Path.{_≡_, refl, sym, ap, _∙_}
 use mathlib.Core.Bool.{Bool, true, false, _&&_, _||_, not, cond, and-true, and-false, and-comm}
 use mathlib.Core.List.{List, [], _∷_}
 use lib.ListN.{length}
-use lib.Dec.{T, ltb, eqb}
+use lib.Dec.{ltb, eqb}
 use lib.Ieee.{Float}
 use native.Mathlib.Omega.{arith}
 use borrow.Author.Tests.{lt-ltb, ne-eqb}
-use Rattle.meaning.specs.Lists.{keep, some, has, upTo}
+use Rattle.meaning.specs.Lists.{keep, some, upTo}
 use Rattle.meaning.specs.Table.{rows}
-use Rattle.meaning.specs.Axis.{axisOf, testOf, on}
+use Rattle.meaning.specs.Axis.{axisOf, testOf, on, principal}
 use Rattle.meaning.specs.Rows.{Op, code, opOf, field, firstLink, secondLink}
 use Rattle.meaning.specs.Rows as R
 use Rattle.meaning.specs.Tree.{Tree, none, node, tree, indexOrAxis, testAt}
 use Rattle.meaning.specs.Meaning.{applied, isAbsolute, startOf, union, value, select, walk}
-use Rattle.meaning.specs.Turning.{counting, counts, inverseOf}
+use Rattle.meaning.specs.Turning.{counting, counts, someStep}
 use Rattle.meaning.proofs.Bools.{or-none-l, or-none-r}
-use Rattle.meaning.proofs.Lists.{some-same, some-members, kept-below}
+use Rattle.meaning.proofs.Lists.{some-same}
 use Rattle.meaning.proofs.Decoding.{op-is}
 use Rattle.meaning.proofs.Trees.{tree-zero, tree-row}
 use Rattle.meaning.proofs.Windows.{some-below, some-or, some-and, some-keep, some-one}
 use Rattle.meaning.proofs.Free.{true-at, ok, fits, free-walk}
 use Rattle.meaning.proofs.Places.{placed, placed-on}
-use Rattle.meaning.proofs.Turning.{inverse-placed}
 
 some-none : (l : List ℕ) → some (λ y. false) l ≡ false
 unfolding some
@@ -51,37 +50,29 @@ shuffle false f g = sym (and-false (g && f))
 module _ (t : List ℕ) (literals : List Float) where
   -- the nodes from which one step leads to a good node
   unfoldable pub before : ℕ → ℕ → Tree → (ℕ → Bool) → ℕ → Bool
-  before c d e good w = some (λ z. (good z && fits t literals (testOf d) e z) && on t (axisOf (inverseOf c)) z w) (upTo (rows t))
+  before c d e good w = some (λ z. (good z && fits t literals (principal (axisOf c)) (testOf d) e z) && on t (axisOf c) w z) (upTo (rows t))
 
   -- the nodes from which a chain of steps leads to a good node
   unfoldable pub backs : Tree → (ℕ → Bool) → ℕ → Bool
   backs none good = good
   backs (node op a b c d) good = backs a (before c d b good)
 
-  -- a chain leads from rows to rows
-  walk-rows : (s : Tree) (set : List ℕ) → ((x : ℕ) → T (has set x) → x < rows t) → (x : ℕ) → T (has (walk t literals s set) x) → x < rows t
-  unfolding walk union
-  walk-rows none set within x h = within x h
-  walk-rows (node op a b c d) set within x h = kept-below _ (rows t) x h
-
-  -- a chain whose steps do not count leads from a set of rows to some good node exactly if some node of the set is led back to
-  pub walk-back : (s : Tree) → counts s ≡ false → (good : ℕ → Bool) (set : List ℕ) → ((x : ℕ) → T (has set x) → x < rows t) → some good (walk t literals s set) ≡ some (backs s good) set
-  unfolding walk backs counts before
-  walk-back none h good set within = refl
-  walk-back (node op a b c d) h good set within =
+  -- a chain whose steps do not count leads from a set to some good node exactly if some node of the set is led back to
+  pub walk-back : (s : Tree) → counts s ≡ false → (good : ℕ → Bool) (set : List ℕ) → some good (walk t literals s set) ≡ some (backs s good) set
+  unfolding walk backs someStep before
+  walk-back none h good set = refl
+  walk-back (node op a b c d) h good set =
       let w : List ℕ = walk t literals a set in
-      let f : ℕ → Bool = fits t literals (testOf d) b in
+      let f : ℕ → Bool = fits t literals (principal (axisOf c)) (testOf d) b in
       let o : ℕ → ℕ → Bool = placed t (axisOf c) in
       ap (some good) (free-walk t literals op a b c d set (or-none-r (counts a) (counting b) h))
       ∙ some-keep good (λ y. some (λ x. o x y && f y) w) (upTo (rows t))
       ∙ some-same (λ y. some (λ x. o x y && f y) w && good y) (λ y. some (λ x. (o x y && f y) && good y) w) (upTo (rows t)) (λ y. sym (some-and (λ x. o x y && f y) (good y) w))
       ∙ some-swap (λ y x. (o x y && f y) && good y) (upTo (rows t)) w
-      ∙ some-members (λ x. some (λ y. (o x y && f y) && good y) (upTo (rows t))) (before c d b good) w
-      (λ x m.
-      let l : x < rows t = walk-rows a set within x m in
-      some-below (λ y. (o x y && f y) && good y) (λ y. (good y && f y) && on t (axisOf (inverseOf c)) y x) (rows t)
-      (λ y k. rw (inverse-placed t c x y l k, placed-on t (axisOf (inverseOf c)) y x l) (shuffle (on t (axisOf (inverseOf c)) y x) (f y) (good y))))
-      ∙ walk-back a (or-none-l (counts a) (counting b) h) (before c d b good) set within
+      ∙ some-same (λ x. some (λ y. (o x y && f y) && good y) (upTo (rows t))) (before c d b good) w
+      (λ x. some-below (λ y. (o x y && f y) && good y) (λ y. (good y && f y) && on t (axisOf c) x y) (rows t)
+      (λ y k. rw (placed-on t (axisOf c) x y k) (shuffle (on t (axisOf c) x y) (f y) (good y))))
+      ∙ walk-back a (or-none-l (counts a) (counting b) h) (before c d b good) set
 
   -- a relative path whose steps do not count selects something from y exactly when y is reached back from all nodes
   pub exists-back : (s : Tree) → counts s ≡ false → (op : Op) (b : Tree) (c d : ℕ) → isAbsolute op ≡ false → (y : ℕ) → y < rows t → ltb 0 (length (select t literals (node op s b c d) y)) ≡ backs s (λ z. true) y
@@ -90,11 +81,11 @@ module _ (t : List ℕ) (literals : List Float) where
       let start : List ℕ = keep (eqb y) (upTo (rows t)) in
       rw relative
       (sym (some-all (walk t literals s start))
-      ∙ walk-back s h (λ z. true) start (kept-below (eqb y) (rows t))
+      ∙ walk-back s h (λ z. true) start
       ∙ some-one (backs s (λ z. true)) (rows t) y l)
 
   -- one step back from the good nodes that fit
-  pub before-by : (c d : ℕ) (e : Tree) (good fit : ℕ → Bool) → ((z : ℕ) → z < rows t → fit z ≡ (good z && fits t literals (testOf d) e z)) → (w : ℕ) → some (λ z. fit z && on t (axisOf (inverseOf c)) z w) (upTo (rows t)) ≡ before c d e good w
+  pub before-by : (c d : ℕ) (e : Tree) (good fit : ℕ → Bool) → ((z : ℕ) → z < rows t → fit z ≡ (good z && fits t literals (principal (axisOf c)) (testOf d) e z)) → (w : ℕ) → some (λ z. fit z && on t (axisOf c) w z) (upTo (rows t)) ≡ before c d e good w
   unfolding before
   before-by c d e good fit h w = some-below _ _ (rows t) (λ z l. rw (h z l))
 

@@ -7,8 +7,8 @@ use mathlib.Core.List.{List}
 use lib.Dec.{eqb}
 use native.Mathlib.Omega.{arith}
 use Rattle.meaning.specs.Rows.{opOf, field, firstLink, secondLink, isNumber}
-use Rattle.meaning.specs.Tree.{tree}
-use Rattle.meaning.specs.Turning.{contextual, overPath, numeric, asks, counting, counts, steps, firstCounting}
+use Rattle.meaning.specs.Tree.{Tree, tree, indexOrAxis}
+use Rattle.meaning.specs.Turning.{contextual, overPath, numeric, asks, counting, steps, someStep, firstStep, counts}
 use Rattle.meaning.proofs.Decoding.{op-is}
 use Rattle.meaning.proofs.Trees.{tree-zero, tree-row}
 
@@ -39,12 +39,17 @@ module _ (p : List ℕ) (l : ℕ) where
   counting-none e = rw (e, tree-zero p)
 
   pub counts-none : l ≡ 0 → false ≡ counts (tree p l)
-  unfolding counts
+  unfolding someStep
   counts-none e = rw (e, tree-zero p)
 
-  pub steps-none : l ≡ 0 → (0 ≡ steps (tree p l)) × (0 ≡ firstCounting (tree p l))
-  unfolding steps firstCounting
-  steps-none e = rw (e, tree-zero p) (refl, refl)
+  -- no steps, and no first one
+  pub steps-none : l ≡ 0 → 0 ≡ steps (tree p l)
+  unfolding steps
+  steps-none e = rw (e, tree-zero p)
+
+  pub first-none : (fit : Tree → ℕ → Bool) → l ≡ 0 → 0 ≡ firstStep fit (tree p l)
+  unfolding firstStep
+  first-none fit e = rw (e, tree-zero p)
 
   -- ---- a row: its op, and its links a and b
 
@@ -75,10 +80,15 @@ module _ (p : List ℕ) (l : ℕ) where
       counting-row u v w x r f g k m n = rw (tree-row p l h, ← is-a, ← is-b, ← f, ← g, ← k, ← m) n
 
       pub counts-row : (u v r : Bool) → u ≡ counts (tree p a) → v ≡ counting (tree p b) → r ≡ (u || v) → r ≡ counts (tree p l)
-      unfolding counts
+      unfolding someStep
       counts-row u v r f g k = rw (tree-row p l h, ← is-a, ← is-b, ← f, ← g) k
 
-      pub steps-row : (n first : ℕ) (own : Bool) (r : ℕ) → (n ≡ steps (tree p a)) × (first ≡ firstCounting (tree p a)) → own ≡ counting (tree p b)
-          → r ≡ cond (eqb first 0) (cond own (n + 1) 0) first → (n + 1 ≡ steps (tree p l)) × (r ≡ firstCounting (tree p l))
-      unfolding steps firstCounting
-      steps-row n first own r f g k = rw (tree-row p l h, ← is-a, ← is-b, ← f .0, ← f .1, ← g) (refl, k)
+      pub steps-row : (n : ℕ) → n ≡ steps (tree p a) → n + 1 ≡ steps (tree p l)
+      unfolding steps
+      steps-row n f = rw (tree-row p l h, ← is-a, ← f)
+
+      -- the first that fits: one before it, or the row's own
+      pub first-row : (fit : Tree → ℕ → Bool) (n first r : ℕ) (own : Bool) → n ≡ steps (tree p a) → first ≡ firstStep fit (tree p a) → own ≡ fit (tree p b) (indexOrAxis p (l - 1))
+          → r ≡ cond (eqb first 0) (cond own (n + 1) 0) first → r ≡ firstStep fit (tree p l)
+      unfolding firstStep
+      first-row fit n first r own f g k e = rw (tree-row p l h, ← is-a, ← is-b, ← f, ← g, ← k) e

@@ -1,9 +1,10 @@
--- The data model (document 02, W-206): the tables that are accepted are trees of the Recommendation's data model. Exactly one child of the
--- root is an element and none is text; no two texts are neighbours as siblings.
+-- The data model (document 02, W-206 and W-209): the tables that are accepted are trees of the Recommendation's data model. Exactly one
+-- child of the root is an element and none is text; no two texts are neighbours as siblings; attributes have elements for parents, and
+-- no two of one element have one name.
 -- Assumes nothing.
-use Prim.Native.Nat.{ℕ, suc, _+_, _<_}
-use mathlib.Core.Path.{_≡_, _∙_}
-use mathlib.Core.Logic.{inl, inr}
+use Prim.Native.Nat.{ℕ, zero, suc, _+_, _-_, _<_, _≤_}
+use mathlib.Core.Path.{_≡_, sym, _∙_}
+use mathlib.Core.Logic.{_⊎_, inl, inr}
 use mathlib.Core.Bool.{Bool, true, false, _&&_, _||_, not, and-false}
 use mathlib.Core.List.{List, []}
 use lib.ListN.{length}
@@ -11,13 +12,29 @@ use lib.Dec.{T, ltb, eqb, eqb→eq, ltb→lt, lt→ltb}
 use native.Mathlib.Omega.{arith}
 use borrow.Author.Tests.{le-ltb}
 use Rattle.meaning.specs.Lists.{upTo, keep, some, lowest}
-use Rattle.meaning.specs.Table.{kind, parentOf, size, rows, end, isElement, isText, hasElement, goodRoot, goodSize, goodRow, textOfRoot, elementOfRoot, laterElement, siblingBefore, previousSibling, textAfterText, accepted}
-use Rattle.meaning.specs.Axis.{on, ordered, isReverse, axisNodes, place, passes, candidates}
+use Rattle.meaning.specs.Table.{kind, parentOf, name, size, rows, end, isElement, isText, isAttribute, hasElement, goodRoot, goodSize, goodRow, textOfRoot, elementOfRoot, laterElement, siblingBefore, previousSibling, textAfterText, amongAttributes, strayAttribute, sameAttribute, attributeAgain, accepted}
+use Rattle.meaning.specs.Axis.{under, on, ordered, isReverse, axisNodes, place, principal, passes, candidates}
 use Rattle.meaning.specs.Axis as A
-use Rattle.meaning.proofs.Bools.{and-l, and-r, and-i, or-e, is-true, is-false, truly, untrue, not-e, eq→eqb, lt-or-ge}
-use Rattle.meaning.proofs.Lists.{IsLowest, lowest-found, some-from, has-upTo-from, none-below, upTo-at, length-upTo, keep-keep, keep-none, place-largest}
-use Rattle.meaning.proofs.Ranges.{keep-range, range-length}
+use Rattle.meaning.proofs.Bools.{and-l, and-r, and-i, or-e, is-true, is-false, truly, untrue, not-e, not-false, eq→eqb, lt-or-ge, eq-or-ne}
+use Rattle.meaning.proofs.Lists.{IsLowest, lowest-found, some-from, has-upTo-from, none-below, upTo-at, length-upTo, keep-keep, keep-none, keep-all, place-largest}
+use Rattle.meaning.proofs.Ranges.{range, keep-range, range-length}
 use Rattle.meaning.proofs.Tables.{Sound, root-holds, row-holds, Child, good-child, whole, some-row}
+
+-- an element is no attribute
+pub element-plain : (t : List ℕ) (i : ℕ) → T (isElement t i) → isAttribute t i ≡ false
+element-plain t i e = rw (eqb→eq (kind t i) 1 e)
+
+-- a row that stands among attributes has the row before it for its parent, or that one's parent
+pub among-row : (t : List ℕ) (i : ℕ) → T (amongAttributes t (suc i)) → (T (isElement t i) × (parentOf t (suc i) ≡ i)) ⊎ (T (isAttribute t i) × (parentOf t (suc i) ≡ parentOf t i))
+unfolding amongAttributes
+among-row t i h =
+    let e : suc i - 1 ≡ i = omega arith in
+    let first : Bool = isElement t i && eqb (parentOf t (suc i)) i in
+    let next : Bool = isAttribute t i && eqb (parentOf t (suc i)) (parentOf t i) in
+    let s : T (first || next) = rw e at h in
+    or-e first next s
+    (λ m. inl (and-l (isElement t i) (eqb (parentOf t (suc i)) i) m, eqb→eq (parentOf t (suc i)) i (and-r (isElement t i) (eqb (parentOf t (suc i)) i) m)))
+    (λ m. inr (and-l (isAttribute t i) (eqb (parentOf t (suc i)) (parentOf t i)) m, eqb→eq (parentOf t (suc i)) (parentOf t i) (and-r (isAttribute t i) (eqb (parentOf t (suc i)) (parentOf t i)) m)))
 
 module _ (t : List ℕ) (n : ℕ) (sound : Sound t n) where
   -- only the root has its kind
@@ -36,7 +53,7 @@ module _ (t : List ℕ) (n : ℕ) (sound : Sound t n) where
   unfolding goodRow goodSize
   holder i p l more =
       let g : T (goodRow t i) = row-holds t n sound i p l in
-      let f : T (isElement t i || eqb (size t i) 0) = search (and-l, and-r) in
+      let f : T (isElement t i || eqb (size t i) 0) = search (and-l, and-r) depth 9 in
       or-e (isElement t i) (eqb (size t i) 0) f (λ h. h) (λ h. absurd (omega (arith, eqb→eq (size t i) 0 h)))
 
   -- the first element is a child of the root
@@ -50,25 +67,61 @@ module _ (t : List ℕ) (n : ℕ) (sound : Sound t n) where
         | inl q ↦ absurd (untrue (first (parentOf t i) (c .below)) (holder (parentOf t i) q (omega (arith, c .below)) (omega (arith, c .below, c .reached))))
       ]))
 
+  -- an attribute stands among those of its element
+  pub among : (i : ℕ) → i < n → T (isAttribute t i) → T (amongAttributes t i)
+  unfolding goodRow strayAttribute
+  among i l a =
+      let g : T (goodRow t i) = row-holds t n sound i (inner i 4 l (eqb→eq (kind t i) 5 a)) l in
+      let f : T (not (isAttribute t i && not (amongAttributes t i))) = search (and-l, and-r) in
+      not-false (amongAttributes t i) (is-false (not (amongAttributes t i)) (λ m. not-e (isAttribute t i && not (amongAttributes t i)) f (and-i (isAttribute t i) (not (amongAttributes t i)) a m)))
+
+  -- the parent of a row that stands among attributes is an element
+  pub among-element : (i : ℕ) → 0 < i → i ≤ n → T (amongAttributes t i) → T (isElement t (parentOf t i))
+  among-element zero p l h = absurd (omega arith)
+  among-element (suc i) p l h = elim (among-row t i h) [
+    | inl m ↦ rw (m .1) (m .0)
+    | inr m ↦ rw (m .1) (among-element i (inner i 4 (omega arith) (eqb→eq (kind t i) 5 (m .0))) (omega arith) (among i (omega arith) (m .0)))
+  ]
+
+  -- and no attribute before it has a later parent
+  pub among-ascend : (i : ℕ) → 0 < i → i ≤ n → T (amongAttributes t i) → (k : ℕ) → k < i → T (isAttribute t k) → parentOf t k ≤ parentOf t i
+  among-ascend zero p l h k m a = absurd (omega arith)
+  among-ascend (suc i) p l h k m a = elim (among-row t i h) [
+    | inl r ↦ omega (arith, r .1, good-child t k (row-holds t n sound k (inner k 4 (omega arith) (eqb→eq (kind t k) 5 a)) (omega arith)) .below)
+    | inr r ↦ elim (eq-or-ne k i) [
+      | inl z ↦ rw (z, r .1) (omega arith)
+      | inr z ↦ rw (r .1) (among-ascend i (inner i 4 (omega arith) (eqb→eq (kind t i) 5 (r .0))) (omega arith) (among i (omega arith) (r .0)) k (omega (arith, z)) a)
+    ]
+  ]
+
 module _ (t : List ℕ) (acc : accepted t ≡ true) where
+  -- the attribute axis is empty but for elements
+  pub attributes-of-elements : (x y : ℕ) → y < rows t → T (on t A.attribute x y) → T (isElement t x)
+  unfolding on under
+  attributes-of-elements x y l h =
+      let p : T (ltb 0 y) = search (and-l, and-r) in
+      let e : T (eqb (parentOf t y) x) = search (and-l, and-r) in
+      let a : T (isAttribute t y) = search (and-l, and-r) in
+      rw (← eqb→eq (parentOf t y) x e) (among-element t (rows t) (whole t acc) y (ltb→lt 0 y p) (omega arith) (among t (rows t) (whole t acc) y l a))
+
   -- the rules that an accepted table's rows keep
-  keeps : (i : ℕ) → 0 < i → i < rows t → T (not (textOfRoot t i)) × T (not (laterElement t i)) × T (not (textAfterText t i))
+  keeps : (i : ℕ) → 0 < i → i < rows t → T (not (textOfRoot t i)) × T (not (laterElement t i)) × T (not (textAfterText t i)) × T (not (attributeAgain t i))
   unfolding goodRow
   keeps i p h =
       let g : T (goodRow t i) = row-holds t (rows t) (whole t acc) i p h in
-      (search (and-l, and-r), search (and-l, and-r), search (and-l, and-r))
+      (search (and-l, and-r), search (and-l, and-r), search (and-l, and-r), search (and-l, and-r))
 
   -- the children of the root that pass a test
-  of-root : (u : A.Test) → candidates t A.child u 0 ≡ keep (λ y. on t A.child 0 y && passes t u y) (upTo (rows t))
-  unfolding candidates axisNodes isReverse ordered
-  of-root u = keep-keep (on t A.child 0) (passes t u) (upTo (rows t))
+  of-root : (u : A.Test) → candidates t A.child u 0 ≡ keep (λ y. on t A.child 0 y && passes t 1 u y) (upTo (rows t))
+  unfolding candidates axisNodes isReverse ordered principal
+  of-root u = keep-keep (on t A.child 0) (passes t 1 u) (upTo (rows t))
 
   -- none is text
   pub no-text-of-root : candidates t A.child A.text 0 ≡ []
-  unfolding on passes textOfRoot
-  no-text-of-root = of-root A.text ∙ keep-none (λ y. on t A.child 0 y && passes t A.text y) (upTo (rows t)) (λ i h.
+  unfolding on under passes textOfRoot
+  no-text-of-root = of-root A.text ∙ keep-none (λ y. on t A.child 0 y && passes t 1 A.text y) (upTo (rows t)) (λ i h.
       let l : i < rows t = rw length-upTo at h in
-      rw (← upTo-at (rows t) i l) (is-false (ltb 0 i && eqb (parentOf t i) 0 && isText t i) (λ b.
+      rw (← upTo-at (rows t) i l) (is-false (ltb 0 i && eqb (parentOf t i) 0 && not (isAttribute t i) && isText t i) (λ b.
       let p : T (ltb 0 i) = search (and-l, and-r) in
       let q : T (eqb (parentOf t i) 0) = search (and-l, and-r) in
       let r : T (isText t i) = search (and-l, and-r) in
@@ -83,17 +136,17 @@ module _ (t : List ℕ) (acc : accepted t ≡ true) where
       lowest-found (isElement t) (rows t) (is-true (hasElement t) h)
 
   -- exactly one is an element
-  pub one-element-of-root : length (candidates t A.child A.any-element 0) ≡ 1
-  unfolding on passes elementOfRoot laterElement
+  pub one-element-of-root : length (candidates t A.child A.star 0) ≡ 1
+  unfolding on under passes elementOfRoot laterElement
   one-element-of-root =
       let x : ℕ = lowest (isElement t) (rows t) in
       let q : T (elementOfRoot t x) = first-of-root t (rows t) (whole t acc) x (first .below) (truly (first .holds)) (first .first) in
-      let is : ℕ → Bool = λ y. on t A.child 0 y && passes t A.any-element y in
+      let is : ℕ → Bool = λ y. on t A.child 0 y && passes t 1 A.star y in
       let p : T (ltb 0 x) = lt→ltb 0 x (inner t (rows t) (whole t acc) x 0 (first .below) (eqb→eq (kind t x) 1 (truly (first .holds)))) in
-      let at-first : T (is x) = rw (is-true (ltb 0 x) p, is-true (eqb (parentOf t x) 0) (and-r (isElement t x) (eqb (parentOf t x) 0) q)) (truly (first .holds)) in
+      let at-first : T (is x) = rw (is-true (ltb 0 x) p, is-true (eqb (parentOf t x) 0) (and-r (isElement t x) (eqb (parentOf t x) 0) q), element-plain t x (truly (first .holds))) (truly (first .holds)) in
       rw (
-        of-root A.any-element,
-        keep-range (rows t) x (x + 1) (omega (arith, first .below)) is
+        of-root A.star,
+        keep-range (rows t) x (x + 1) (omega (arith, first .below)) is (λ y. true)
             (λ y l. rw (first .first y l, and-false (on t A.child 0 y)))
             (λ y k l. is-false (is y) (λ b.
             let e : T (eqb (parentOf t y) 0) = search (and-l, and-r) in
@@ -101,6 +154,7 @@ module _ (t : List ℕ) (acc : accepted t ≡ true) where
             not-e (laterElement t y) (keeps y (omega arith) l .1) (and-i (elementOfRoot t y) (some (elementOfRoot t) (upTo y)) (and-i (isElement t y) (eqb (parentOf t y) 0) r e)
             (some-from (elementOfRoot t) (upTo y) x q (has-upTo-from y x (omega arith))))))
             (λ y k l. let s : y ≡ x = omega arith in rw s (is-true (is x) at-first)),
+        keep-all (range (rows t) x (x + 1)),
       )
       (range-length (rows t) x (x + 1) (omega (arith, first .below)) ∙ omega arith)
 
@@ -109,7 +163,7 @@ module _ (t : List ℕ) (acc : accepted t ≡ true) where
   unfolding place axisNodes on isReverse ordered previousSibling textAfterText
   no-neighbour-texts i j h e =
       let r = place-largest (siblingBefore t i) (rows t) j e in
-      let b : T (ltb 0 j && ltb j i && eqb (parentOf t j) (parentOf t i)) = r .0 in
+      let b : T (siblingBefore t i j) = r .0 in
       let l : T (ltb j i) = search (and-l, and-r) in
       let alone : some (λ k. ltb j k && siblingBefore t i k) (upTo i) ≡ false = none-below (λ k. ltb j k && siblingBefore t i k) i (λ k a. elim (lt-or-ge j k) [
         | inl m ↦ rw (r .1 k m (omega arith), and-false (ltb j k))
@@ -118,3 +172,24 @@ module _ (t : List ℕ) (acc : accepted t ≡ true) where
       is-false (isText t i && isText t j) (λ both.
       not-e (textAfterText t i) (keeps i (omega (arith, ltb→lt j i l)) h .2)
       (and-i (isText t i) _ (and-l (isText t i) (isText t j) both) (some-from (λ j. previousSibling t i j && isText t j) (upTo i) j (rw (is-true (siblingBefore t i j) b, alone) (and-r (isText t i) (isText t j) both)) (has-upTo-from i j (ltb→lt j i l)))))
+
+  -- no two attributes of one element have one name
+  pub names-differ : (x y z : ℕ) → y < rows t → z < rows t → T (on t A.attribute x y) → T (on t A.attribute x z) → name t y ≡ name t z → y ≡ z
+  unfolding on under attributeAgain sameAttribute
+  names-differ x y z h k o q e = elim (lt-or-ge y z) [
+    | inl l ↦ absurd (twice y z l k o q e)
+    | inr m ↦ elim (lt-or-ge z y) [
+      | inl l ↦ absurd (twice z y l h q o (sym e))
+      | inr l ↦ omega arith
+    ]
+  ]
+    where
+      twice : (j i : ℕ) → j < i → i < rows t → T (on t A.attribute x j) → T (on t A.attribute x i) → name t j ≡ name t i → ⊥
+      twice j i l h o q e =
+          let a : T (isAttribute t j) = and-r (under t x j) (isAttribute t j) o in
+          let b : T (isAttribute t i) = and-r (under t x i) (isAttribute t i) q in
+          let f : parentOf t j ≡ x = eqb→eq (parentOf t j) x (and-r (ltb 0 j) (eqb (parentOf t j) x) (and-l (under t x j) (isAttribute t j) o)) in
+          let g : parentOf t i ≡ x = eqb→eq (parentOf t i) x (and-r (ltb 0 i) (eqb (parentOf t i) x) (and-l (under t x i) (isAttribute t i) q)) in
+          let s : T (isAttribute t j && eqb (parentOf t j) (parentOf t i) && eqb (name t j) (name t i)) =
+          and-i (isAttribute t j && eqb (parentOf t j) (parentOf t i)) (eqb (name t j) (name t i)) (and-i (isAttribute t j) (eqb (parentOf t j) (parentOf t i)) a (eq→eqb (parentOf t j) (parentOf t i) (f ∙ sym g))) (eq→eqb (name t j) (name t i) e) in
+          not-e (attributeAgain t i) (keeps i (omega arith) h .3) (and-i (isAttribute t i) _ b (some-from (sameAttribute t i) (upTo i) j s (has-upTo-from i j l)))

@@ -4,26 +4,26 @@
 use Prim.Native.Nat.{ℕ, zero, suc, _-_, _%_, _<_, _≤_, zero-le, suc-le-suc}
 use mathlib.Core.Path.{_≡_, refl, sym, ap, _∙_}
 use mathlib.Core.Logic.{inl, inr}
-use mathlib.Core.Bool.{Bool, true, false, _||_, _&&_, and-false, true≢false}
+use mathlib.Core.Bool.{Bool, true, false, _||_, _&&_, cond, and-false, true≢false}
 use lib.ListN.{List·getD-eq-default}
 use lib.Dec.{leb, ltb, eqb}
 use lib.Ieee.{unlike}
 use native.Mathlib.Omega.{arith}
 use borrow.Author.Tests.{le-leb, lt-leb, ne-eqb, eqb-true, lt-ltb}
 use Rattle.meaning.specs.Lists.{upTo, some}
-use Rattle.meaning.specs.Axis.{axisOf, isReverse, testOf}
+use Rattle.meaning.specs.Axis.{axisOf, lastAxis, isReverse, principal, testOf}
 use Rattle.meaning.specs.Axis as A
 use Rattle.meaning.specs.Rows.{Op, code, opOf, fieldsOf, isLink, isNumber, isTruth, isPath, isStep, isPredicate, isUnknown}
 use Rattle.meaning.specs.Rows as R
 use Rattle.meaning.proofs.Bools.{lt-or-ge}
 use Rattle.meaning.proofs.Lists.{below-none}
 
--- a number above 25 is no op, and one above 10 reads as axis 0
+-- a number above 25 is no op, and one above 11 reads as axis 0
 pub op-past : (n : ℕ) → 25 < n → opOf n ≡ R.unknown
 unfolding opOf
 op-past n h = List·getD-eq-default R.ops R.unknown h
 
-pub axis-past : (n : ℕ) → 10 < n → axisOf n ≡ A.self
+pub axis-past : (n : ℕ) → 11 < n → axisOf n ≡ A.self
 unfolding axisOf
 axis-past n h = List·getD-eq-default A.axes A.self h
 
@@ -31,18 +31,22 @@ axis-past n h = List·getD-eq-default A.axes A.self h
 pub past : (k n : ℕ) → k ≤ n → (n ≡ k → ⊥) → k < n
 past k n h f = omega arith
 
--- a number from 1 on that is none of 1 to 10 is above 10
-pub past-axes : (n : ℕ) → 1 ≤ n → (n ≡ 1 → ⊥) → (n ≡ 2 → ⊥) → (n ≡ 3 → ⊥) → (n ≡ 4 → ⊥) → (n ≡ 5 → ⊥) → (n ≡ 6 → ⊥) → (n ≡ 7 → ⊥) → (n ≡ 8 → ⊥) → (n ≡ 9 → ⊥) → (n ≡ 10 → ⊥) → 10 < n
-past-axes n h n1 n2 n3 n4 n5 n6 n7 n8 n9 n10 =
-    past 10 n (past 9 n (past 8 n (past 7 n (past 6 n (past 5 n (past 4 n (past 3 n (past 2 n (past 1 n h n1) n2) n3) n4) n5) n6) n7) n8) n9) n10
+-- n is none of 1 to k, as a match leaves it: from 1 on it is above them
+abbrev pub NoneOf : ℕ → ℕ → Type 0
+NoneOf zero n = Unit {0}
+NoneOf (suc k) n = NoneOf k n × (n ≡ suc k → ⊥)
 
--- an axis that is none of 1 to 10 reads as self
-pub axis-rest : (n : ℕ) → (n ≡ 1 → ⊥) → (n ≡ 2 → ⊥) → (n ≡ 3 → ⊥) → (n ≡ 4 → ⊥) → (n ≡ 5 → ⊥) → (n ≡ 6 → ⊥) → (n ≡ 7 → ⊥) → (n ≡ 8 → ⊥) → (n ≡ 9 → ⊥) → (n ≡ 10 → ⊥) → axisOf n ≡ A.self
-axis-rest zero n1 n2 n3 n4 n5 n6 n7 n8 n9 n10 = unfold axisOf in refl
-axis-rest (suc n) n1 n2 n3 n4 n5 n6 n7 n8 n9 n10 = axis-past (suc n) (past-axes (suc n) (suc-le-suc zero-le) n1 n2 n3 n4 n5 n6 n7 n8 n9 n10)
+pub none-past : (k n : ℕ) → 1 ≤ n → NoneOf k n → k < n
+none-past zero n h f = h
+none-past (suc k) n h f = past (suc k) n (none-past k n h (f .0)) (f .1)
+
+-- an axis that is none of 1 to 11 reads as self
+pub axis-rest : (n : ℕ) → NoneOf 11 n → axisOf n ≡ A.self
+axis-rest zero f = unfold axisOf in refl
+axis-rest (suc n) f = axis-past (suc n) (none-past 11 (suc n) (suc-le-suc zero-le) f)
 
 -- a test that is none of 0 to 4 asks for a name
-pub test-rest : (n : ℕ) → (n ≡ 0 → ⊥) → (n ≡ 1 → ⊥) → (n ≡ 2 → ⊥) → (n ≡ 3 → ⊥) → (n ≡ 4 → ⊥) → testOf n ≡ A.element (n - 16)
+pub test-rest : (n : ℕ) → (n ≡ 0 → ⊥) → (n ≡ 1 → ⊥) → (n ≡ 2 → ⊥) → (n ≡ 3 → ⊥) → (n ≡ 4 → ⊥) → testOf n ≡ A.named (n - 16)
 unfolding testOf
 test-rest n n0 n1 n2 n3 n4 = rw (lt-leb n 4 (past 4 n (past 3 n (past 2 n (past 1 n (past 0 n zero-le n0) n1) n2) n3) n4))
 
@@ -89,8 +93,14 @@ second-ops = agree (λ n. isLink (fieldsOf (opOf n) .b)) (λ n. ((leb 4 n && leb
 -- the axes that run against document order
 pub reverse-axes : (n : ℕ) → isReverse (axisOf n) ≡ (eqb (n % 2) 0 && (ltb 0 n && leb n 10))
 unfolding axisOf isReverse some upTo
-reverse-axes = agree (λ n. isReverse (axisOf n)) (λ n. eqb (n % 2) 0 && (ltb 0 n && leb n 10)) 11 refl
-    (λ n h. rw (axis-past n h, lt-leb n 10 h, and-false (ltb 0 n), and-false (eqb (n % 2) 0)))
+reverse-axes = agree (λ n. isReverse (axisOf n)) (λ n. eqb (n % 2) 0 && (ltb 0 n && leb n 10)) 12 refl
+    (λ n h. rw (axis-past n h, lt-leb n 10 (omega arith), and-false (ltb 0 n), and-false (eqb (n % 2) 0)))
+
+-- `*` and names match attributes on axis 11, and elements on every other
+pub principal-kind : (n : ℕ) → principal (axisOf n) ≡ cond (eqb n lastAxis) 5 1
+unfolding axisOf principal some upTo
+principal-kind n = eqb-true (principal (axisOf n)) (cond (eqb n lastAxis) 5 1) (agree (λ n. eqb (principal (axisOf n)) (cond (eqb n lastAxis) 5 1)) (λ n. true) 12 refl
+    (λ n h. rw (axis-past n h, ne-eqb n lastAxis (λ e. omega arith))) n)
 
 -- ---- the sorts of rows, by op
 

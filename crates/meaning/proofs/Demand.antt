@@ -1,5 +1,5 @@
--- Demand 3, of rows: a path that is turned gives rows that are accepted, one more than it has, and they select x from y exactly where
--- the path selects y from x. The turned tree is tidy and made by the rules as the path's own is, so its written rows are accepted and
+-- Demand 3, of rows: a path that is turned gives rows that are accepted, one more than it has, and for nodes that are no attributes of an
+-- accepted table they select x from y exactly where the path selects y from x. The turned tree is tidy and made by the rules as the path's own is, so its written rows are accepted and
 -- read back as it; what it selects is the law of trees.
 -- Assumes nothing.
 use Prim.Native.Nat.{ℕ, zero, suc, _+_, _-_, _*_, _<_, _≤_}
@@ -7,29 +7,30 @@ use mathlib.Core.Path.{_≡_, refl, sym, subst, ap, _∙_}
 use mathlib.Core.Logic.{inl, inr}
 use mathlib.Core.Bool.{Bool, true, false, _&&_, _||_, not, cond}
 use mathlib.Core.List.{List}
-use lib.ListN.{length, List·getD-eq-default}
+use lib.ListN.{length}
 use lib.Dec.{T, leb, ltb, eqb, eqb→eq, eqb·suc-zero}
 use lib.Ieee.{Float}
 use native.Mathlib.Omega.{arith}
 use borrow.Author.Tests.{lt-ltb}
 use Rattle.meaning.specs.Lists.{upTo, some, has}
-use Rattle.meaning.specs.Table.{rows}
+use Rattle.meaning.specs.Table.{accepted}
 use Rattle.meaning.specs.Axis.{lastAxis}
 use Rattle.meaning.specs.Rows.{Op, opOf, opAt, code, fieldsOf, isLiteral, isStep, isPath, isLink, isUnknown, mayMiss, takes, goodTest, goodField, firstLink, secondLink, rowsOf, mostPathRows}
 use Rattle.meaning.specs.Rows as R
 use Rattle.meaning.specs.Tree.{Tree, none, node, indexOrAxis, testAt, tree, depth}
 use Rattle.meaning.specs.Meaning.{isAbsolute}
-use Rattle.meaning.specs.Turning.{inverses, counting, steps, counts, firstCounting, inverseOf, predicates, test, back, turned, weight, written}
-use Rattle.meaning.specs.Answers.{answer, pathTree, pathAnswer, selected, countingStep, absolutePath, turning, turnedRows}
+use Rattle.meaning.specs.Turning.{counting, steps, someStep, firstStep, isCounting, isOfAttributes, counts, ofAttributes, inverseOf, predicates, test, back, turned, weight, written}
+use Rattle.meaning.specs.Answers.{answer, pathTree, pathAnswer, selected, countingStep, attributeStep, absolutePath, turning, turnedRows}
 use Rattle.meaning.specs.declared.Answer.{Answer}
 use Rattle.meaning.proofs.Bools.{and-l, and-r, and-i, or-e, is-true, truly, untrue, not-false, lt-or-ge}
 use Rattle.meaning.proofs.Lists.{below-none}
 use Rattle.meaning.proofs.Trees.{tree-row}
 use Rattle.meaning.proofs.Ops.{op-code, step-is}
-use Rattle.meaning.proofs.Exactly.{AcceptedPath, GoodPath, Turns, TurningGives, refused, step-counts, absolute, no-room, turns, refused-path, check-path-exactly, refused-exactly}
+use Rattle.meaning.proofs.Exactly.{AcceptedPath, GoodPath, Turns, TurningGives, refused, step-counts, of-attributes, absolute, no-room, turns, refused-path, check-path-exactly, refused-exactly}
 use Rattle.meaning.proofs.Paths.{some-path-row, top-is-path, all-rows}
 use Rattle.meaning.proofs.ReadBack.{Tidy, tree-tidy, length-written, written-rows, written-reads-back}
-use Rattle.meaning.proofs.Turning.{turned-selects-back}
+use Rattle.meaning.proofs.Tables.{Plain}
+use Rattle.meaning.proofs.Turning.{inverse-past, turned-selects-back}
 use Rattle.meaning.proofs.Made.{Made, made, goodChild, goodHeld, goodNode}
 use Rattle.meaning.proofs.Block.{written-accepted}
 
@@ -39,8 +40,9 @@ use Rattle.meaning.proofs.Block.{written-accepted}
 zero-turns : (p : List ℕ) (literals : List Float) (room : ℕ) {a : Answer} → TurningGives p literals room a → a .number ≡ 0 → Turns p literals room
 zero-turns p literals room (refused r) e = absurd (refused-path r e)
 zero-turns p literals room (step-counts g n) e = absurd (omega arith)
-zero-turns p literals room (absolute g n r) e = absurd (omega arith)
-zero-turns p literals room (no-room g n r f) e = absurd (omega arith)
+zero-turns p literals room (of-attributes g n h) e = absurd (omega arith)
+zero-turns p literals room (absolute g n m r) e = absurd (omega arith)
+zero-turns p literals room (no-room g n m r f) e = absurd (omega arith)
 zero-turns p literals room (turns h) e = h
 
 first-one : (r : ℕ) (k : Bool) (n : ℕ) → ltb 0 (cond (eqb r 0) (cond k (n + 1) 0) r) ≡ (ltb 0 r || k)
@@ -48,11 +50,11 @@ first-one zero true n = lt-ltb 0 (n + 1) (omega arith)
 first-one zero false n = refl
 first-one (suc r) k n = rw (eqb·suc-zero, lt-ltb 0 (suc r) (omega arith))
 
--- a step counts exactly where there is a first one that does
-pub first-counting : (s : Tree) → ltb 0 (firstCounting s) ≡ counts s
-unfolding firstCounting counts
-first-counting none = refl
-first-counting (node op a b c d) = first-one (firstCounting a) (counting b) (steps a) ∙ ap (λ (v : Bool). v || counting b) (first-counting a)
+-- a step fits exactly where there is a first one that does
+pub first-step : (fit : Tree → ℕ → Bool) (s : Tree) → ltb 0 (firstStep fit s) ≡ someStep fit s
+unfolding firstStep someStep
+first-step fit none = refl
+first-step fit (node op a b c d) = first-one (firstStep fit a) (fit b c) (steps a) ∙ ap (λ (v : Bool). v || fit b c) (first-step fit a)
 
 -- ---- the turned tree
 
@@ -86,15 +88,11 @@ unfolding depth back isPath code
 depth-back none done k h m = m
 depth-back (node op a b c d) done k h m = depth-back a (node R.step done (predicates a) (inverseOf c) (test a)) k (omega arith) (omega (arith, depth-predicates a))
 
-inverse-past : (c : ℕ) → 10 < c → inverseOf c ≡ 0
-unfolding inverseOf
-inverse-past c l = List·getD-eq-default inverses 0 l
-
 -- an inverse axis is an axis
 axis-back : (c : ℕ) → T (leb (inverseOf c) lastAxis)
 unfolding inverseOf some upTo
-axis-back c = elim (lt-or-ge c 11) [
-  | inl l ↦ not-false (leb (inverseOf c) lastAxis) (below-none (λ c. not (leb (inverseOf c) lastAxis)) 11 refl c l)
+axis-back c = elim (lt-or-ge c 12) [
+  | inl l ↦ not-false (leb (inverseOf c) lastAxis) (below-none (λ c. not (leb (inverseOf c) lastAxis)) 12 refl c l)
   | inr l ↦ rw (inverse-past c l) tt
 ]
 
@@ -178,14 +176,14 @@ module _ (literals : ℕ) where
 
 -- ---- the turned rows
 
--- rows q are the path p turned round, beside the same literals
+-- rows q are the path p turned round, beside the same literals: for nodes that are no attributes
 pub record Round (p q : List ℕ) (literals : List Float) : Type 0 where
   pub fit : AcceptedPath q (length literals)
   pub answered : pathAnswer q literals ≡ answer 0 (rowsOf p + 1)
   pub one-more : rowsOf q ≡ rowsOf p + 1
   pub five-a-row : length q ≡ 5 * (rowsOf p + 1)
   pub read : pathTree q ≡ turned (pathTree p)
-  pub round : (t : List ℕ) (x y : ℕ) → x < rows t → y < rows t → has (selected t p literals x) y ≡ has (selected t q literals y) x
+  pub round : (t : List ℕ) → accepted t ≡ true → (x y : ℕ) → Plain t x → Plain t y → has (selected t p literals x) y ≡ has (selected t q literals y) x
 
 -- a path that is not absolute is relative
 pub relative-is : (op : Op) → isPath op ≡ true → isAbsolute op ≡ false → op ≡ R.relative
@@ -195,10 +193,10 @@ relative-is op h k = or-e (eqb (code op) 22) (eqb (code op) 23) (truly h)
     (λ e. absurd (untrue k e))
 
 module _ (p : List ℕ) (literals : List Float) where
-  round-of : (s b : Tree) (c d : ℕ) → pathTree p ≡ node R.relative s b c d → counts s ≡ false → rowsOf p + 1 ≤ mostPathRows
+  round-of : (s b : Tree) (c d : ℕ) → pathTree p ≡ node R.relative s b c d → counts s ≡ false → ofAttributes s ≡ false → rowsOf p + 1 ≤ mostPathRows
       → GoodPath p literals → Round p (turnedRows p) literals
   unfolding turned isPath isAbsolute code selfStep
-  round-of s b c d e none-counts few good =
+  round-of s b c d e none-counts none-of-attributes few good =
       let acc : AcceptedPath p (length literals) = good .0 in
       let E : Tree = node R.relative s b c d in
       let q : List ℕ = written 0 (turned E) in
@@ -217,12 +215,12 @@ module _ (p : List ℕ) (literals : List Float) where
         one-more = n;
         five-a-row = omega (arith, length-written 0 (turned E));
         read = read ∙ ap turned (sym e);
-        round = λ t x y h k. rw (e, read) (turned-selects-back t literals R.relative s b c d refl none-counts x y);
+        round = λ t acc x y h k. rw (e, read) (turned-selects-back t literals R.relative s b c d refl none-counts none-of-attributes acc x y h k);
       })
 
   -- demand 3: where turning gives 0, the turned rows are the path turned round
   pub demand-three : (room : ℕ) → turning p literals room .number ≡ 0 → Round p (turnedRows p) literals
-  unfolding absolutePath countingStep
+  unfolding absolutePath countingStep attributeStep
   demand-three room given =
       let h : Turns p literals room = zero-turns p literals room (refused-exactly p literals room (turning p literals room) .0 refl) given in
       let r : ℕ = rowsOf p - 1 in
@@ -231,11 +229,13 @@ module _ (p : List ℕ) (literals : List Float) where
       let e : pathTree p ≡ node (opAt p r) s b (indexOrAxis p r) (testAt p r) =
       tree-row p (rowsOf p) (λ z. omega (arith, some-path-row p (length literals) (h .good .0))) in
       let o : opAt p r ≡ R.relative = relative-is (opAt p r) (top-is-path p (length literals) (h .good .0)) (sym (ap absolutePath e) ∙ h .not-absolute) in
-      let k : counts s ≡ false = sym (first-counting s) ∙ ap (ltb 0) (sym (ap countingStep e) ∙ h .none-counts) in
-      round-of s b (indexOrAxis p r) (testAt p r) (e ∙ ap (λ (v : Op). node v s b (indexOrAxis p r) (testAt p r)) o) k (h .few) (h .good)
+      let k : counts s ≡ false = sym (first-step isCounting s) ∙ ap (ltb 0) (sym (ap countingStep e) ∙ h .none-counts) in
+      let u : ofAttributes s ≡ false = sym (first-step isOfAttributes s) ∙ ap (ltb 0) (sym (ap attributeStep e) ∙ h .none-of-attributes) in
+      round-of s b (indexOrAxis p r) (testAt p r) (e ∙ ap (λ (v : Op). node v s b (indexOrAxis p r) (testAt p r)) o) k u (h .few) (h .good)
 
--- where the turned rows are turned again, the rows turned twice select y from x exactly when the path does, on every table
+-- where the turned rows are turned again, the rows turned twice select y from x exactly when the path does, on every accepted table and
+-- for nodes that are no attributes
 pub turned-twice : (p : List ℕ) (literals : List Float) (room again : ℕ) → turning p literals room .number ≡ 0 → turning (turnedRows p) literals again .number ≡ 0
-    → (t : List ℕ) (x y : ℕ) → x < rows t → y < rows t → has (selected t (turnedRows (turnedRows p)) literals x) y ≡ has (selected t p literals x) y
-turned-twice p literals room again given given-again t x y h k =
-    sym (demand-three p literals room given .round t x y h k ∙ demand-three (turnedRows p) literals again given-again .round t y x k h)
+    → (t : List ℕ) → accepted t ≡ true → (x y : ℕ) → Plain t x → Plain t y → has (selected t (turnedRows (turnedRows p)) literals x) y ≡ has (selected t p literals x) y
+turned-twice p literals room again given given-again t acc x y h k =
+    sym (demand-three p literals room given .round t acc x y h k ∙ demand-three (turnedRows p) literals again given-again .round t acc y x k h)

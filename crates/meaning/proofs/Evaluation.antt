@@ -20,7 +20,7 @@ use Rattle.meaning.specs.declared.Value.{Value}
 use Rattle.meaning.specs.declared.Value.the-variants.{Truth}
 use Rattle.meaning.specs.declared.Context.{Context}
 use Rattle.meaning.proofs.Bools.{eq-or-ne}
-use Rattle.meaning.proofs.Decoding.{agree, op-past, past}
+use Rattle.meaning.proofs.Decoding.{agree, op-past, past, NoneOf, none-past}
 use Rattle.meaning.proofs.Trees.{tree-zero, tree-row}
 use Rattle.meaning.proofs.Applied.{takesFirst, takesSecond, second-first, operands-no-path, applied-agrees, decides, decided}
 use Rattle.meaning.proofs.Marks.{listed, listed-none}
@@ -45,15 +45,6 @@ takes-second-ops = agree (λ n. takesSecond (opOf n)) (λ n. (leb 4 n && leb n 1
     go true c = refl
     go false c = refl
 
--- n is none of 1 to k, as a match leaves it
-abbrev pub NoneOf : ℕ → ℕ → Type 0
-NoneOf zero n = Unit {0}
-NoneOf (suc k) n = NoneOf k n × (n ≡ suc k → ⊥)
-
-beyond : (k n : ℕ) → 1 ≤ n → NoneOf k n → k < n
-beyond zero n h f = h
-beyond (suc k) n h f = past (suc k) n (beyond k n h (f .0)) (f .1)
-
 -- an op that is none of 1 to 21 is no expression
 pub no-expression : (literals : List Float) (n i : ℕ) (u v : Value) (m : ℕ) (x : Context) → NoneOf 21 n → Truth false ≡ applied literals (opOf n) i u v m x
 unfolding applied opOf
@@ -68,7 +59,7 @@ no-expression literals n i u v m x f = elim (eq-or-ne n 0) [
         | inr e24 ↦ elim (eq-or-ne n 25) [
           | inl e ↦ rw e
           | inr e25 ↦
-              let l : 21 < n = beyond 21 n (omega arith) f in
+              let l : 21 < n = none-past 21 n (omega arith) f in
               rw (op-past n (past 25 n (past 24 n (past 23 n (past 22 n l e22) e23) e24) e25))
         ]
       ]

@@ -15,7 +15,7 @@ use Rattle.meaning.specs.Lists.{upTo, some, lowest}
 use Rattle.meaning.specs.Table.{rows, lengthAllowed, broken, accepted}
 use Rattle.meaning.specs.Rows.{rowsOf, mostPathRows, pathLengthAllowed, badLiteralAt, brokenRow}
 use Rattle.meaning.specs.Tree.{depth, mostDepth}
-use Rattle.meaning.specs.Answers.{answer, check, tableChecks, tableAnswer, pathTree, pathChecks, pathAnswer, selected, evaluation, countingStep, absolutePath, turning}
+use Rattle.meaning.specs.Answers.{answer, check, tableChecks, tableAnswer, pathTree, pathChecks, pathAnswer, selected, evaluation, countingStep, attributeStep, absolutePath, turning}
 use Rattle.meaning.specs.declared.Answer.{Answer}
 use Rattle.meaning.proofs.Bools.{is-true, or-e, truly, or-none-l, or-none-r}
 use Rattle.meaning.proofs.Lists.{IsLowest, none-below, below-none, lowest-found, found-lowest, found-some}
@@ -78,17 +78,19 @@ module _ (p : List ℕ) (literals : List Float) (room : ℕ) where
   pub record Turns : Type 0 where
     pub good : GoodPath p literals
     pub none-counts : countingStep (pathTree p) ≡ 0
+    pub none-of-attributes : attributeStep (pathTree p) ≡ 0
     pub not-absolute : absolutePath (pathTree p) ≡ false
     pub few : rowsOf p + 1 ≤ mostPathRows
     pub fits : 5 * (rowsOf p + 1) ≤ room
 
-  -- turning. 9: a step counts, the first such; 10: the path is absolute; 11: rows + 1 above 256, or the output shorter than 5 times that;
-  -- 0: done, with the rows written
+  -- turning. 9: a step counts, the first such; 13: a step is on the attribute axis, the first such; 10: the path is absolute; 11: rows + 1
+  -- above 256, or the output shorter than 5 times that; 0: done, with the rows written
   pub data TurningGives : Answer → Type 0 where
     refused : {a : Answer} → RefusedPath p literals a → TurningGives a
     step-counts : GoodPath p literals → 0 < countingStep (pathTree p) → TurningGives (answer 9 (countingStep (pathTree p)))
-    absolute : GoodPath p literals → countingStep (pathTree p) ≡ 0 → absolutePath (pathTree p) ≡ true → TurningGives (answer 10 0)
-    no-room : GoodPath p literals → countingStep (pathTree p) ≡ 0 → absolutePath (pathTree p) ≡ false
+    of-attributes : GoodPath p literals → countingStep (pathTree p) ≡ 0 → 0 < attributeStep (pathTree p) → TurningGives (answer 13 (attributeStep (pathTree p)))
+    absolute : GoodPath p literals → countingStep (pathTree p) ≡ 0 → attributeStep (pathTree p) ≡ 0 → absolutePath (pathTree p) ≡ true → TurningGives (answer 10 0)
+    no-room : GoodPath p literals → countingStep (pathTree p) ≡ 0 → attributeStep (pathTree p) ≡ 0 → absolutePath (pathTree p) ≡ false
         → (mostPathRows < rowsOf p + 1) ⊎ (room < 5 * (rowsOf p + 1)) → TurningGives (answer 11 (rowsOf p + 1))
     turns : Turns → TurningGives (answer 0 (rowsOf p + 1))
 
@@ -209,36 +211,41 @@ module _ (p : List ℕ) (literals : List Float) (room : ℕ) where
   turning-to =
       let Gives : Answer → Type 0 = TurningGives p literals room in
       let n : ℕ = countingStep (pathTree p) in
+      let k : ℕ = attributeStep (pathTree p) in
       let m : ℕ = rowsOf p + 1 in
       let many : Bool = ltb mostPathRows m in
       let short : Bool = ltb room (5 * m) in
       path-cases Gives p literals _ (λ a r. refused r) (λ good.
       check-cases Gives (ltb 0 n) 9 n _ (λ e. step-counts good (ltb-true 0 n e)) (λ e.
       let z : n ≡ 0 = omega (arith, ltb-false 0 n e) in
-      check-cases Gives (absolutePath (pathTree p)) 10 0 _ (absolute good z) (λ r.
+      check-cases Gives (ltb 0 k) 13 k _ (λ e. of-attributes good z (ltb-true 0 k e)) (λ e.
+      let y : k ≡ 0 = omega (arith, ltb-false 0 k e) in
+      check-cases Gives (absolutePath (pathTree p)) 10 0 _ (absolute good z y) (λ r.
       check-cases Gives (many || short) 11 m (answer 0 m)
-      (λ f. no-room good z r (or-e many short (truly f)
+      (λ f. no-room good z y r (or-e many short (truly f)
       (λ h. inl (ltb-true mostPathRows m (is-true many h)))
       (λ h. inr (ltb-true room (5 * m) (is-true short h)))))
       (λ f. turns (record {
         good = good;
         none-counts = z;
+        none-of-attributes = y;
         not-absolute = r;
         few = ltb-false mostPathRows m (or-none-l many short f);
         fits = ltb-false room (5 * m) (or-none-r many short f);
-      })))))
+      }))))))
 
   turning-from : {a : Answer} → TurningGives p literals room a → turning p literals room ≡ a
   unfolding turning
   turning-from (refused r) = path-refuses p literals _ r
   turning-from (step-counts good h) = path-lets p literals _ good ∙ rw (lt-ltb 0 (countingStep (pathTree p)) h)
-  turning-from (absolute good z r) = path-lets p literals _ good ∙ rw (z, r)
-  turning-from (no-room good z r (inl h)) = path-lets p literals _ good ∙ rw (z, r, lt-ltb mostPathRows (rowsOf p + 1) h)
-  turning-from (no-room good z r (inr h)) = path-lets p literals _ good ∙ rw (z, r, lt-ltb room (5 * (rowsOf p + 1)) h, or-true (ltb mostPathRows (rowsOf p + 1)))
+  turning-from (of-attributes good z h) = path-lets p literals _ good ∙ rw (z, lt-ltb 0 (attributeStep (pathTree p)) h)
+  turning-from (absolute good z y r) = path-lets p literals _ good ∙ rw (z, y, r)
+  turning-from (no-room good z y r (inl h)) = path-lets p literals _ good ∙ rw (z, y, r, lt-ltb mostPathRows (rowsOf p + 1) h)
+  turning-from (no-room good z y r (inr h)) = path-lets p literals _ good ∙ rw (z, y, r, lt-ltb room (5 * (rowsOf p + 1)) h, or-true (ltb mostPathRows (rowsOf p + 1)))
   turning-from (turns h) =
       path-lets p literals _ (h .good)
-      ∙ rw (h .none-counts, h .not-absolute, le-ltb mostPathRows (rowsOf p + 1) (h .few), le-ltb room (5 * (rowsOf p + 1)) (h .fits))
+      ∙ rw (h .none-counts, h .none-of-attributes, h .not-absolute, le-ltb mostPathRows (rowsOf p + 1) (h .few), le-ltb room (5 * (rowsOf p + 1)) (h .fits))
 
-  -- turning gives 0, 3 to 6 and 9 to 11
+  -- turning gives 0, 3 to 6, 9 to 11 and 13
   pub refused-exactly : (a : Answer) → (turning p literals room ≡ a) ↔ TurningGives p literals room a
   refused-exactly a = (λ e. subst (TurningGives p literals room) e turning-to, turning-from)

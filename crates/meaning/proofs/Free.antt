@@ -9,7 +9,7 @@ use lib.ListN.{length}
 use lib.Ieee.{Float}
 use Rattle.meaning.specs.Lists.{keep, some, has, upTo}
 use Rattle.meaning.specs.Table.{rows}
-use Rattle.meaning.specs.Axis.{Axis, Test, axisOf, testOf, passes, candidates}
+use Rattle.meaning.specs.Axis.{Axis, Test, axisOf, testOf, principal, passes, candidates}
 use Rattle.meaning.specs.Rows.{Op}
 use Rattle.meaning.specs.Tree.{Tree, none, node}
 use Rattle.meaning.specs.Meaning.{float, truthOf, holds, value, select, walk, filtered, union}
@@ -67,19 +67,19 @@ module _ (t : List ℕ) (literals : List Float) where
       ∙ ap (keep (true-at b)) (filtered-free a (or-none-l (counting a) (numeric b || asks b) h) l)
       ∙ keep-keep (ok a) (true-at b) l
 
-  -- does a node pass a test and all predicates of a chain?
-  abbrev pub fits : Test → Tree → ℕ → Bool
-  fits u e y = passes t u y && ok e y
+  -- does a node pass a test, of the kind k for `*` and names, and all predicates of a chain?
+  abbrev pub fits : ℕ → Test → Tree → ℕ → Bool
+  fits k u e y = passes t k u y && ok e y
 
   -- a step that does not count reaches what has a place on the axis, passes the test and holds
-  pub free-step : (a : Axis) (u : Test) (e : Tree) (x y : ℕ) → counting e ≡ false → has (filtered t literals e (candidates t a u x)) y ≡ (placed t a x y && fits u e y)
+  pub free-step : (a : Axis) (u : Test) (e : Tree) (x y : ℕ) → counting e ≡ false → has (filtered t literals e (candidates t a u x)) y ≡ (placed t a x y && fits (principal a) u e y)
   free-step a u e x y h =
       ap (λ (l : List ℕ). has l y) (filtered-free e h (candidates t a u x))
       ∙ has-keep (ok e) (candidates t a u x) y
-      ∙ rw (candidate-is t a x u y) (and-assoc (placed t a x y) (passes t u y) (ok e y))
+      ∙ rw (candidate-is t a x u y) (and-assoc (placed t a x y) (passes t (principal a) u y) (ok e y))
 
   -- the same of the last step of a chain, from a set
   pub free-walk : (op : Op) (a b : Tree) (c d : ℕ) (set : List ℕ) → counting b ≡ false
-      → walk t literals (node op a b c d) set ≡ keep (λ y. some (λ x. placed t (axisOf c) x y && fits (testOf d) b y) (walk t literals a set)) (upTo (rows t))
+      → walk t literals (node op a b c d) set ≡ keep (λ y. some (λ x. placed t (axisOf c) x y && fits (principal (axisOf c)) (testOf d) b y) (walk t literals a set)) (upTo (rows t))
   unfolding walk union
   free-walk op a b c d set h = keep-upTo _ _ (rows t) (λ y l. some-same _ _ (walk t literals a set) (λ x. free-step (axisOf c) (testOf d) b x y h))

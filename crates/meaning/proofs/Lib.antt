@@ -3,6 +3,7 @@ pub mod Lists
 pub mod Tables
 pub mod Places
 pub mod Ranges
+pub mod Attributes
 pub mod Axes
 pub mod DataModel
 pub mod Decoding

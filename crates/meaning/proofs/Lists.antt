@@ -198,6 +198,11 @@ unfolding keep
 keep-none p [] h = refl
 keep-none p (x ∷ xs) h = rw (h 0 (omega arith), keep-none p xs (λ i k. h (suc i) (omega arith)))
 
+pub keep-agree : (p q : ℕ → Bool) (l : List ℕ) → ((i : ℕ) → i < length l → p (getD l i 0) ≡ q (getD l i 0)) → keep p l ≡ keep q l
+unfolding keep
+keep-agree p q [] h = refl
+keep-agree p q (x ∷ xs) h = rw (h 0 (omega arith), keep-agree p q xs (λ i k. h (suc i) (omega arith)))
+
 pub keep-each : (p : ℕ → Bool) (l : List ℕ) → ((i : ℕ) → i < length l → p (getD l i 0) ≡ true) → keep p l ≡ l
 unfolding keep
 keep-each p [] h = refl
@@ -236,6 +241,13 @@ keep-shorter p (x ∷ xs) = by (p x) (keep-shorter p xs)
     by false h = omega arith
 
 -- a test that does not look at the position
+pub keepAt-among : (f : ℕ → ℕ → Bool) (i : ℕ) (l : List ℕ) (y : ℕ) → T (has (keepAt f i l) y) → T (has l y)
+unfolding keepAt some
+keepAt-among f i [] y h = h
+keepAt-among f i (x ∷ xs) y h = or-e (f x i && eqb y x) (has (keepAt f (i + 1) xs) y) (subst T (has-cond (f x i) x (keepAt f (i + 1) xs) y) h)
+    (λ k. or-i-l (eqb y x) (some (eqb y) xs) (and-r (f x i) (eqb y x) k))
+    (λ k. or-i-r (eqb y x) (some (eqb y) xs) (keepAt-among f (i + 1) xs y k))
+
 pub keepAt-free : (f : ℕ → ℕ → Bool) (g : ℕ → Bool) → ((y i : ℕ) → f y i ≡ g y) → (i : ℕ) (l : List ℕ) → keepAt f i l ≡ keep g l
 unfolding keep keepAt
 keepAt-free f g e i [] = refl

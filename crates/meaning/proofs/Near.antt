@@ -10,17 +10,14 @@ use mathlib.Core.List.{List}
 use lib.Ieee.{Float}
 use Rattle.meaning.specs.Lists.{some, upTo}
 use Rattle.meaning.specs.Table.{rows}
-use Rattle.meaning.specs.Axis.{axisOf, testOf, on, passes}
+use Rattle.meaning.specs.Axis.{axisOf, testOf, on, principal, passes}
 use Rattle.meaning.specs.Rows.{Op, firstLink, secondLink}
 use Rattle.meaning.specs.Tree.{Tree, none, node, tree, indexOrAxis, testAt}
-use Rattle.meaning.specs.Turning.{inverseOf}
 use Rattle.meaning.proofs.Bools.{truly, is-true}
 use Rattle.meaning.proofs.Lists.{some-from, has-upTo-from}
 use Rattle.meaning.proofs.Trees.{tree-zero, tree-row}
 use Rattle.meaning.proofs.Windows.{some-below}
 use Rattle.meaning.proofs.Free.{ok}
-use Rattle.meaning.proofs.Places.{placed-on}
-use Rattle.meaning.proofs.Turning.{inverse-placed}
 use Rattle.meaning.proofs.Backward.{before, backs}
 
 -- ---- what a chain may come by
@@ -29,7 +26,7 @@ module _ (t : List ℕ) where
   -- what a chain of steps may reach from a set by its axes and tests, whatever its predicates say
   unfoldable pub ahead : Tree → (ℕ → Bool) → ℕ → Bool
   ahead none from y = from y
-  ahead (node op a b c d) from y = some (λ x. ahead a from x && on t (axisOf c) x y) (upTo (rows t)) && passes t (testOf d) y
+  ahead (node op a b c d) from y = some (λ x. ahead a from x && on t (axisOf c) x y) (upTo (rows t)) && passes t (principal (axisOf c)) (testOf d) y
 
   -- every node that a chain may come by is near
   unfoldable pub Covers : (ℕ → Bool) → Tree → (ℕ → Bool) → Type 0
@@ -37,7 +34,7 @@ module _ (t : List ℕ) where
   Covers near (node op a b c d) from = Covers near a from × ((y : ℕ) → y < rows t → ahead (node op a b c d) from y ≡ true → near y ≡ true)
 
   -- what the axis reaches from there, and passes the test, is ahead
-  ahead-more : (op : Op) (a b : Tree) (c d : ℕ) (from : ℕ → Bool) (w z : ℕ) → w < rows t → ahead a from w ≡ true → on t (axisOf c) w z ≡ true → passes t (testOf d) z ≡ true → ahead (node op a b c d) from z ≡ true
+  ahead-more : (op : Op) (a b : Tree) (c d : ℕ) (from : ℕ → Bool) (w z : ℕ) → w < rows t → ahead a from w ≡ true → on t (axisOf c) w z ≡ true → passes t (principal (axisOf c)) (testOf d) z ≡ true → ahead (node op a b c d) from z ≡ true
   unfolding ahead
   ahead-more op a b c d from w z l h o p =
       let f : ℕ → Bool = λ x. ahead a from x && on t (axisOf c) x z in
@@ -97,8 +94,8 @@ module _ (t : List ℕ) (literals : List Float) where
       near-backs a near from (k .0) (before t literals c d b (λ z. f z && near z)) (before t literals c d b g) one y l e
     where
       one : (w : ℕ) → w < rows t → ahead t a from w ≡ true → before t literals c d b (λ z. f z && near z) w ≡ before t literals c d b g w
-      one w m r = some-below _ _ (rows t) (λ z n. guarded (f z) (near z) (g z) (passes t (testOf d) z) (ok t literals b z) (on t (axisOf (inverseOf c)) z w)
-          (λ o p. let x : ahead t (node op a b c d) from z ≡ true = ahead-more t op a b c d from w z m r (sym (placed-on t (axisOf c) w z n) ∙ inverse-placed t c w z m n ∙ placed-on t (axisOf (inverseOf c)) z w m ∙ o) p in (k .1 z n x, h z n x)))
+      one w m r = some-below _ _ (rows t) (λ z n. guarded (f z) (near z) (g z) (passes t (principal (axisOf c)) (testOf d) z) (ok t literals b z) (on t (axisOf c) w z)
+          (λ o p. let x : ahead t (node op a b c d) from z ≡ true = ahead-more t op a b c d from w z m r o p in (k .1 z n x, h z n x)))
 
 -- ---- rows, stated over what code has read of them
 
@@ -114,7 +111,7 @@ module _ (t : List ℕ) (p : List ℕ) (l : ℕ) where
 
   module _ (some-row : (l ≡ 0) → ⊥) (a : ℕ) (is-first : a ≡ firstLink p (l - 1)) where
     -- a step: those before it, then its axis and its test
-    pub ahead-row : (c d : ℕ) → c ≡ indexOrAxis p (l - 1) → d ≡ testAt p (l - 1) → (from : ℕ → Bool) (y : ℕ) → (some (λ x. ahead t (tree p a) from x && on t (axisOf c) x y) (upTo (rows t)) && passes t (testOf d) y) ≡ ahead t (tree p l) from y
+    pub ahead-row : (c d : ℕ) → c ≡ indexOrAxis p (l - 1) → d ≡ testAt p (l - 1) → (from : ℕ → Bool) (y : ℕ) → (some (λ x. ahead t (tree p a) from x && on t (axisOf c) x y) (upTo (rows t)) && passes t (principal (axisOf c)) (testOf d) y) ≡ ahead t (tree p l) from y
     unfolding ahead
     ahead-row c d e f from y = rw (tree-row p l some-row, ← is-first, ← e, ← f)
 

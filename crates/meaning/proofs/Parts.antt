@@ -1,10 +1,10 @@
--- The five parts of the tree (document 02, W-208): self, ancestors, descendants, what precedes and what follows hold every node once,
--- as axes and as what evaluation answers for them; and each -or-self axis is the union of its two parts.
+-- The five parts of the tree (document 02, W-208): self, ancestors, descendants, what precedes and what follows hold every node that is
+-- no attribute once, as axes and as what evaluation answers for them; and each -or-self axis is the union of its two parts.
 -- Assumes nothing.
 use Prim.Native.Nat.{ℕ, _<_, _≤_}
-use mathlib.Core.Path.{_≡_, refl, ap, _∙_}
+use mathlib.Core.Path.{_≡_, refl, sym, ap, _∙_}
 use mathlib.Core.Logic.{inl, inr}
-use mathlib.Core.Bool.{Bool, true, false, _&&_, _||_, not, cond, and-true}
+use mathlib.Core.Bool.{Bool, true, false, _&&_, _||_, not, cond, and-true, and-false, true≢false}
 use mathlib.Core.List.{List, [], _∷_, map}
 use lib.ListN.{length, take}
 use lib.Dec.{leb, eqb}
@@ -12,8 +12,8 @@ use lib.Seq.{take-append-seam}
 use native.Mathlib.Omega.{arith}
 use borrow.Author.Tests.{lt-ltb, le-ltb, eq-eqb, ne-eqb, le-leb}
 use Rattle.meaning.specs.Lists.{keep, some, upTo, has}
-use Rattle.meaning.specs.Table.{rows, end, accepted}
-use Rattle.meaning.specs.Axis.{Axis, axisOf, lastAxis, inside, on, testOf, passes}
+use Rattle.meaning.specs.Table.{rows, end, isAttribute, accepted}
+use Rattle.meaning.specs.Axis.{Axis, axisOf, lastAxis, inside, after, on, testOf, passes}
 use Rattle.meaning.specs.Axis as A
 use Rattle.meaning.specs.Answers.{answer, pathTree, pathChecks, pathAnswer, selected, evaluation, output, evaluated}
 use Rattle.meaning.specs.Rows.{pathLengthAllowed, opOf, fieldsOf, code, isPath, isStep, isLiteral, isUnknown, isLink, takes, mayMiss, goodLink, goodTest, goodField, goodFields, follow, firstLink, secondLink, links, linkedBelow, linksAgain, misplaced, brokenRow}
@@ -23,9 +23,11 @@ use Rattle.meaning.specs.Meaning.{isAbsolute, startOf, select, walk}
 use Rattle.meaning.specs.Turning.{counting}
 use Rattle.meaning.specs.Cases.{line}
 use Rattle.meaning.specs.declared.Answer.{Answer}
-use Rattle.meaning.proofs.Bools.{lt-or-ge, is-true}
+use Rattle.meaning.proofs.Bools.{lt-or-ge, is-true, is-false}
 use Rattle.meaning.proofs.Lists.{has-keep, has-upTo-from, length-upTo, keep-upTo, keep-shorter}
+use Rattle.meaning.proofs.Tables.{Plain}
 use Rattle.meaning.proofs.Places.{placed, placed-on}
+use Rattle.meaning.proofs.Attributes.{inside-plain}
 use Rattle.meaning.proofs.Free.{ok, free-walk}
 use Rattle.meaning.proofs.Windows.{some-one}
 use Rattle.meaning.proofs.Exactly.{selects, evaluation-exactly}
@@ -46,17 +48,25 @@ one-of-two : (b : Bool) (m n : ℕ) → length (cond b (m ∷ cond (not b) (n �
 one-of-two true m n = refl
 one-of-two false m n = refl
 
--- y lies on exactly one of them: the axes of x on which it lies are one in number. Less than an accepted table and two of its nodes is
--- needed: for any two numbers one is below the other or they are equal, and `inside` parts the later ones and the earlier ones in two
-pub five-parts : (t : List ℕ) (x y : ℕ) → length (keep (λ axis. on t (axisOf axis) x y) fiveParts) ≡ 1
-unfolding axisOf on inside keep
-five-parts t x y = elim (lt-or-ge x y) [
-  | inl l ↦ rw (ne-eqb x y (λ e. omega arith), lt-ltb x y l, le-ltb y x (omega arith)) (one-of-two (leb y (end t x)) 3 7)
+-- a y that is no attribute lies on exactly one of them: the axes of x on which it lies are one in number. Less than an accepted table and
+-- two of its nodes is needed: for any two numbers one is below the other or they are equal, and `inside` parts the later ones and the
+-- earlier ones in two
+pub five-parts : (t : List ℕ) (x y : ℕ) → isAttribute t y ≡ false → length (keep (λ axis. on t (axisOf axis) x y) fiveParts) ≡ 1
+unfolding axisOf on inside after keep
+five-parts t x y p = elim (lt-or-ge x y) [
+  | inl l ↦ rw (ne-eqb x y (λ e. omega arith), lt-ltb x y l, le-ltb y x (omega arith), p, and-true (leb y (end t x)), and-true (not (leb y (end t x)))) (one-of-two (leb y (end t x)) 3 7)
   | inr g ↦ elim (lt-or-ge y x) [
-    | inl l ↦ rw (ne-eqb x y (λ e. omega arith), le-ltb x y g, lt-ltb y x l) (one-of-two (leb x (end t y)) 4 8)
+    | inl l ↦ rw (ne-eqb x y (λ e. omega arith), le-ltb x y g, lt-ltb y x l, p, and-true (not (leb x (end t y)))) (one-of-two (leb x (end t y)) 4 8)
     | inr h ↦ rw (eq-eqb x y (omega arith), le-ltb x y g, le-ltb y x h)
   ]
 ]
+
+-- an attribute of an accepted table lies on none of them but its own self
+pub five-parts-attribute : (t : List ℕ) → accepted t ≡ true → (x y : ℕ) → x < rows t → isAttribute t y ≡ true → keep (λ axis. on t (axisOf axis) x y) fiveParts ≡ cond (eqb x y) (0 ∷ []) []
+unfolding axisOf on keep
+five-parts-attribute t acc x y h a =
+    let around : inside t y x ≡ false = is-false (inside t y x) (λ k. true≢false (sym a ∙ inside-plain t acc x y h k)) in
+    rw (a, around, and-false (inside t x y), and-false (after t y x), and-false (after t x y))
 
 -- ---- -or-self
 
@@ -117,10 +127,10 @@ module _ (t : List ℕ) (axis x : ℕ) (below : x < rows t) where
         ∙ rw (is-true (has (upTo (rows t)) y) (has-upTo-from (rows t) y l)) (placed-on t (axisOf axis) x y l))
 
 -- the five answers from x, each 0 where there is room for every node (`axis-path-answered`), together list every node once: it is in
--- exactly one of them, and each of them ascends (`evaluate-ascending`)
+-- exactly one of them if it is no attribute, and each of them ascends (`evaluate-ascending`)
 pub five-answers : (t : List ℕ) → accepted t ≡ true → (x : ℕ) → x < rows t → (out : List ℕ) → rows t ≤ length out
-    → (y : ℕ) → y < rows t → length (keep (λ axis. has (answered t axis x out) y) fiveParts) ≡ 1
+    → (y : ℕ) → Plain t y → length (keep (λ axis. has (answered t axis x out) y) fiveParts) ≡ 1
 unfolding keep
 five-answers t acc x h out room y l =
-    let lies : (axis : ℕ) → axis ≤ lastAxis → has (answered t axis x out) y ≡ on t (axisOf axis) x y = λ axis k. answered-has t axis x h k acc out room y l in
-    rw (lies 0 (omega arith), lies 4 (omega arith), lies 3 (omega arith), lies 8 (omega arith), lies 7 (omega arith)) (five-parts t x y)
+    let lies : (axis : ℕ) → axis ≤ lastAxis → has (answered t axis x out) y ≡ on t (axisOf axis) x y = λ axis k. answered-has t axis x h k acc out room y (l .0) in
+    rw (lies 0 (omega arith), lies 4 (omega arith), lies 3 (omega arith), lies 8 (omega arith), lies 7 (omega arith)) (five-parts t x y (l .1))

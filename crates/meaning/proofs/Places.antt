@@ -12,7 +12,7 @@ use native.Mathlib.Omega.{arith}
 use borrow.Author.Tests.{ltb-true, ltb-false}
 use Rattle.meaning.specs.Lists.{keep, has, placeFrom}
 use Rattle.meaning.specs.Table.{rows, mostRows, accepted}
-use Rattle.meaning.specs.Axis.{Axis, Test, axisOf, lastAxis, on, isReverse, ordered, axisNodes, place, passes, candidates}
+use Rattle.meaning.specs.Axis.{Axis, Test, axisOf, lastAxis, on, isReverse, ordered, axisNodes, place, principal, passes, candidates}
 use Rattle.meaning.specs.Axis as A
 use Rattle.meaning.specs.Rows.{Op}
 use Rattle.meaning.specs.Tree.{Tree, none, node}
@@ -70,14 +70,14 @@ module _ (t : List ℕ) (a : Axis) (x : ℕ) where
   -- ---- candidates
 
   -- a candidate has a place on the axis and passes the test
-  pub candidate-is : (u : Test) (y : ℕ) → has (candidates t a u x) y ≡ (placed t a x y && passes t u y)
+  pub candidate-is : (u : Test) (y : ℕ) → has (candidates t a u x) y ≡ (placed t a x y && passes t (principal a) u y)
   unfolding candidates
-  candidate-is u y = rw (placed-has y) (has-keep (passes t u) (axisNodes t a x) y)
+  candidate-is u y = rw (placed-has y) (has-keep (passes t (principal a) u) (axisNodes t a x) y)
 
   -- candidates are strictly monotone along the axis
   pub candidates-monotone : (u : Test) → Monotone (isReverse a) (candidates t a u x)
   unfolding candidates
-  candidates-monotone u = keep-monotone (isReverse a) (passes t u) (axisNodes t a x) axis-monotone
+  candidates-monotone u = keep-monotone (isReverse a) (passes t (principal a) u) (axisNodes t a x) axis-monotone
 
   -- with test node() they are the nodes of the axis
   pub any-candidates : candidates t a A.any-node x ≡ axisNodes t a x

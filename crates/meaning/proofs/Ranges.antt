@@ -1,22 +1,22 @@
--- Axes whose nodes are a range of rows (document 02, W-205): the rows before it and behind it are not on the axis, so the list kept over
--- all rows is the list kept over the range.
+-- Axes whose nodes are a range of rows without the attributes in it (document 02, W-205 and W-209): the rows before it and behind it are not
+-- on the axis, so the list kept over all rows is the list kept over the range.
 -- Assumes nothing.
 use Prim.Native.Nat.{ℕ, _+_, _-_, _<_, _≤_, min}
 use mathlib.Core.Path.{_≡_, sym, _∙_}
 use mathlib.Core.Logic.{⊎-elim}
-use mathlib.Core.Bool.{Bool, true, false, and-false}
+use mathlib.Core.Bool.{Bool, true, false, _||_, not, and-false}
 use mathlib.Core.List.{List}
 use lib.ListN.{length, getD, take, set}
-use lib.Dec.{ltb}
+use lib.Dec.{ltb, eqb}
 use lib.Seq.{slice, length-slice, getD-drop, getD-take}
 use native.Mathlib.Omega.{arith}
 use borrow.Author.Tests.{eq-eqb, ne-eqb, lt-ltb, le-ltb, le-leb, lt-leb}
 use Rattle.meaning.specs.Lists.{upTo, keep}
-use Rattle.meaning.specs.Table.{rows, end}
-use Rattle.meaning.specs.Axis.{on, ordered, axisNodes}
+use Rattle.meaning.specs.Table.{rows, end, isAttribute}
+use Rattle.meaning.specs.Axis.{inside, on, ordered, axisNodes}
 use Rattle.meaning.specs.Axis as A
 use Rattle.meaning.proofs.Bools.{eq-or-ne}
-use Rattle.meaning.proofs.Lists.{keep-slice, keep-each, length-upTo, upTo-at}
+use Rattle.meaning.proofs.Lists.{keep-slice, keep-agree, length-upTo, upTo-at}
 use Rattle.meaning.proofs.Filters.{Chosen, chosen-start, chosen-skip, chosen-more, chosen-done}
 
 -- ---- a range of the numbers below n
@@ -35,13 +35,13 @@ module _ (n f t : ℕ) (h : t ≤ n) where
       let e : f + (y - f) ≡ y = omega arith in
       rw (getD-drop f (take t (upTo n)) (y - f) 0, e, getD-take t (upTo n) y 0 l) (upTo-at n y (omega arith))
 
-  -- of the numbers below n a test keeps the range if it fails before it and behind it and holds in it
-  pub keep-range : (p : ℕ → Bool) → ((y : ℕ) → y < f → p y ≡ false) → ((y : ℕ) → t ≤ y → y < n → p y ≡ false) → ((y : ℕ) → f ≤ y → y < t → p y ≡ true) → keep p (upTo n) ≡ range n f t
-  keep-range p before behind between =
+  -- of the numbers below n a test keeps what another keeps of the range if it fails before it and behind it and agrees in it
+  pub keep-range : (p q : ℕ → Bool) → ((y : ℕ) → y < f → p y ≡ false) → ((y : ℕ) → t ≤ y → y < n → p y ≡ false) → ((y : ℕ) → f ≤ y → y < t → p y ≡ q y) → keep p (upTo n) ≡ keep q (range n f t)
+  keep-range p q before behind between =
       keep-slice p (upTo n) f t
       (λ i k m. let l : i < n = rw length-upTo at k in rw (← upTo-at n i l) (before i m))
       (λ i k m. let l : i < n = rw length-upTo at k in rw (← upTo-at n i l) (behind i m l))
-      ∙ keep-each p (range n f t) (λ i k.
+      ∙ keep-agree p q (range n f t) (λ i k.
       let l = rw range-length at k in
       let e : f + i - f ≡ i = omega arith in
       rw (rw e at (sym (range-at (f + i) (omega arith) (omega arith)))) (between (f + i) (omega arith) (omega arith)))
@@ -78,24 +78,28 @@ module _ (p : ℕ → Bool) (n f t : ℕ) where
 
 -- ---- axes
 
--- a subtree's rows end where its size says, or with the table
+-- is y the node x itself, or no attribute?
+abbrev pub ownOrPlain : List ℕ → ℕ → ℕ → Bool
+ownOrPlain t x y = eqb x y || not (isAttribute t y)
+
+-- a subtree's rows end where its size says, or with the table; of them x itself and those that are no attributes are on its axes
 module _ (t : List ℕ) (x to : ℕ) (is-to : to ≡ min (rows t) (end t x + 1)) where
   -- the descendants of x are the rows after it
-  pub descendants-range : axisNodes t A.descendant x ≡ range (rows t) (x + 1) to
-  unfolding axisNodes on A.inside A.isReverse ordered
+  pub descendants-range : axisNodes t A.descendant x ≡ keep (ownOrPlain t x) (range (rows t) (x + 1) to)
+  unfolding axisNodes on inside A.isReverse ordered
   descendants-range =
-      keep-range (rows t) (x + 1) to (omega arith) (A.inside t x)
+      keep-range (rows t) (x + 1) to (omega arith) (on t A.descendant x) (ownOrPlain t x)
       (λ y h. rw (le-ltb x y (omega arith)))
-      (λ y h k. rw (lt-leb y (end t x) (omega arith)) (and-false (ltb x y)))
-      (λ y h k. rw (lt-ltb x y (omega arith), le-leb y (end t x) (omega arith)))
+      (λ y h k. rw (lt-leb y (end t x) (omega arith), and-false (ltb x y)))
+      (λ y h k. rw (ne-eqb x y (λ e. omega arith), lt-ltb x y (omega arith), le-leb y (end t x) (omega arith)))
 
   -- with x itself, from it on
-  pub subtree-range : axisNodes t A.descendant-or-self x ≡ range (rows t) x to
-  unfolding axisNodes on A.inside A.isReverse ordered
+  pub subtree-range : axisNodes t A.descendant-or-self x ≡ keep (ownOrPlain t x) (range (rows t) x to)
+  unfolding axisNodes on inside A.isReverse ordered
   subtree-range =
-      keep-range (rows t) x to (omega arith) (on t A.descendant-or-self x)
+      keep-range (rows t) x to (omega arith) (on t A.descendant-or-self x) (ownOrPlain t x)
       (λ y h. rw (ne-eqb x y (λ e. omega arith), le-ltb x y (omega arith)))
-      (λ y h k. rw (ne-eqb x y (λ e. omega arith), lt-leb y (end t x) (omega arith)) (and-false (ltb x y)))
+      (λ y h k. rw (ne-eqb x y (λ e. omega arith), lt-leb y (end t x) (omega arith), and-false (ltb x y)))
       (λ y h k. ⊎-elim
       (λ e. rw (eq-eqb x y e))
       (λ e. rw (ne-eqb x y e, lt-ltb x y (omega arith), le-leb y (end t x) (omega arith)))

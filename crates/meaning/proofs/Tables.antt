@@ -10,7 +10,7 @@ use native.Mathlib.Omega.{arith}
 use native.Mathlib.Nat.{eq-or-lt-of-le}
 use borrow.Author.Tests.{ne-eqb}
 use Rattle.meaning.specs.Lists.{upTo, some}
-use Rattle.meaning.specs.Table.{mostRows, parentOf, rows, end, lengthAllowed, goodRoot, nearest, goodParent, goodRow, broken, accepted}
+use Rattle.meaning.specs.Table.{mostRows, parentOf, rows, end, isAttribute, lengthAllowed, goodRoot, nearest, goodParent, goodRow, broken, accepted}
 use Rattle.meaning.proofs.Bools.{and-l, and-r, and-i, truly, is-false, not-false, not-e, lt-or-ge}
 use Rattle.meaning.proofs.Lists.{below-none, some-from, has-upTo-from}
 
@@ -32,7 +32,7 @@ nearest-largest t i p h j l k = elim (lt-or-ge p j) [
 -- what a row that is not broken says
 pub good-parent : (t : List ℕ) (i : ℕ) → T (goodRow t i) → T (goodParent t i)
 unfolding goodRow
-good-parent t i g = search (and-l, and-r)
+good-parent t i g = search (and-l, and-r) depth 9
 
 pub parent-child : (t : List ℕ) (i : ℕ) → T (goodParent t i) → Child t i
 unfolding goodParent nearest
@@ -50,6 +50,10 @@ parent-child t i p =
 
 pub good-child : (t : List ℕ) (i : ℕ) → T (goodRow t i) → Child t i
 good-child t i g = parent-child t i (good-parent t i g)
+
+-- a row that is no attribute
+abbrev pub Plain : List ℕ → ℕ → Type 0
+Plain t i = (i < rows t) × (isAttribute t i ≡ false)
 
 -- no row below n is broken
 abbrev pub Sound : List ℕ → ℕ → Type 0

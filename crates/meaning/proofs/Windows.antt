@@ -1,5 +1,5 @@
--- What holds at some row of a window: the rows below a row, the rows above it, one row, a row or others; and the axes
--- as windows, bounds on row numbers alone. A pass over the rows knows of the rows behind it, so it knows a window.
+-- What holds at some row of a window: the rows below a row, the rows above it, one row, a row or others; and what
+-- comes after a row as a window, a bound on row numbers alone. A pass over the rows knows of the rows behind it, so it knows a window.
 -- Assumes nothing.
 use Prim.Native.Nat.{ℕ, zero, suc, _+_, _-_, _<_, _≤_}
 use mathlib.Core.Path.{_≡_, refl, sym, ap, _∙_}
@@ -11,8 +11,7 @@ use native.Mathlib.Omega.{arith}
 use borrow.Author.Tests.{eq-eqb, ne-eqb, lt-ltb, le-ltb, le-leb, lt-leb}
 use Rattle.meaning.specs.Lists.{keep, some, upTo}
 use Rattle.meaning.specs.Table.{end}
-use Rattle.meaning.specs.Axis.{inside, on}
-use Rattle.meaning.specs.Axis as A
+use Rattle.meaning.specs.Axis.{inside, after}
 use Rattle.meaning.proofs.Bools.{eqb-sym, lt-or-ge, eq-or-ne}
 use Rattle.meaning.proofs.Lists.{some-members, some-append, some-same, some-last, has-upTo-to, none-below}
 
@@ -117,15 +116,15 @@ window-above r (suc n) y =
     ∙ rw (le-ltb y n l, or-false (some (λ x. ltb y x && r x) (upTo n)), e) (rw f at (window-above r n y)))
     (lt-or-ge y n)
 
--- ---- the axes as windows
+-- ---- what comes after, as a window
 
 pub leb-ltb : (a b : ℕ) → leb a b ≡ ltb a (b + 1)
 leb-ltb a b = ⊎-elim (λ l. rw (lt-leb a b l, le-ltb a (b + 1) (omega arith))) (λ l. rw (le-leb a b l, lt-ltb a (b + 1) (omega arith))) (lt-or-ge b a)
 
--- following begins past the end of the subtree
-pub following-is : (t : List ℕ) (x y : ℕ) → on t A.following x y ≡ ltb (end t x) y
-unfolding on inside
-following-is t x y =
+-- what comes after a node begins past the end of its subtree
+pub after-is : (t : List ℕ) (x y : ℕ) → after t x y ≡ ltb (end t x) y
+unfolding after inside
+after-is t x y =
     ⊎-elim
     (λ l. rw (lt-ltb x y (omega arith), lt-leb y (end t x) l, lt-ltb (end t x) y l))
     (λ l. ⊎-elim
@@ -133,8 +132,3 @@ following-is t x y =
     (λ m. rw (le-ltb x y m, le-ltb (end t x) y l))
     (lt-or-ge x y))
     (lt-or-ge (end t x) y)
-
--- preceding is what ends before
-pub preceding-is : (t : List ℕ) (x y : ℕ) → on t A.preceding x y ≡ ltb (end t y) x
-unfolding on
-preceding-is t x y = following-is t y x

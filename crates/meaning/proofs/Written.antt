@@ -15,7 +15,7 @@ use Rattle.meaning.specs.Rows.{code, opOf, opAt, field, isLiteral, first
 use Rattle.meaning.specs.Tree.{tree, indexOrAxis, testAt}
 use Rattle.meaning.specs.Turning.{inverses, inverseOf, predicates, test, weight, link, row, written}
 use Rattle.meaning.proofs.Bools.{eq-or-ne}
-use Rattle.meaning.proofs.Decoding.{past-axes, op-past, code-of}
+use Rattle.meaning.proofs.Decoding.{past, NoneOf, none-past, op-past, code-of}
 use Rattle.meaning.proofs.Trees.{tree-zero, tree-row}
 use Rattle.meaning.proofs.ReadBack.{length-written}
 
@@ -49,11 +49,16 @@ sets-front xs l h = let z : 0 + length xs ≤ length l = omega arith in let e : 
 
 -- ---- inverse axes
 
--- an axis that is none of 1 to 10 has itself, or 0 where it is none
-pub inverse-rest : (n : ℕ) → (n ≡ 1 → ⊥) → (n ≡ 2 → ⊥) → (n ≡ 3 → ⊥) → (n ≡ 4 → ⊥) → (n ≡ 5 → ⊥) → (n ≡ 6 → ⊥) → (n ≡ 7 → ⊥) → (n ≡ 8 → ⊥) → (n ≡ 9 → ⊥) → (n ≡ 10 → ⊥) → 0 ≡ inverseOf n
+-- an axis that is none of 1 to 10 has 0
+pub inverse-rest : (n : ℕ) → NoneOf 10 n → 0 ≡ inverseOf n
 unfolding inverseOf
-inverse-rest zero n1 n2 n3 n4 n5 n6 n7 n8 n9 n10 = refl
-inverse-rest (suc n) n1 n2 n3 n4 n5 n6 n7 n8 n9 n10 = sym (List·getD-eq-default inverses 0 {n = suc n} (past-axes (suc n) (suc-le-suc zero-le) n1 n2 n3 n4 n5 n6 n7 n8 n9 n10))
+inverse-rest n f = elim (eq-or-ne n 0) [
+  | inl e ↦ rw e refl
+  | inr z ↦ elim (eq-or-ne n 11) [
+    | inl e ↦ rw e refl
+    | inr e ↦ sym (List·getD-eq-default inverses 0 {n = n} (past 11 n (none-past 10 n (omega arith) f) e))
+  ]
+]
 
 -- ---- a row
 

@@ -1,4 +1,4 @@
--- Numbers given back (document 01), and a node's place on an axis (document 02, W-203): the answer of each public function and what its
+-- Numbers given back (document 01; 13 of document 02, W-209), and a node's place on an axis (document 02, W-203): the answer of each public function and what its
 -- output slice holds, from its inputs.
 -- Checks run in the order of the numbers; the first that applies is given, and no other.
 -- Assumes nothing: these are definitions.
@@ -14,7 +14,7 @@ use Rattle.meaning.specs.Axis.{axisOf, lastAxis, place}
 use Rattle.meaning.specs.Rows.{rowsOf, pathLengthAllowed, mostPathRows, badLiteralAt, brokenRow}
 use Rattle.meaning.specs.Tree.{Tree, none, node, tree, depth, mostDepth}
 use Rattle.meaning.specs.Meaning.{select, isAbsolute}
-use Rattle.meaning.specs.Turning.{firstCounting, turned, written}
+use Rattle.meaning.specs.Turning.{firstStep, isCounting, isOfAttributes, turned, written}
 use Rattle.meaning.specs.declared.Answer.{Answer}
 
 abbrev pub answer : ℕ → ℕ → Answer
@@ -83,23 +83,28 @@ output a front out = cond (eqb (a .number) 0) (front ++ drop (length front) out)
 unfoldable pub evaluated : List ℕ → List ℕ → List Float → ℕ → List ℕ → List ℕ
 evaluated t p literals start out = output (evaluation t p literals start (length out)) (selected t p literals start) out
 
--- the number of the first top-level step that counts, 0 where none does; and is the top path absolute?
+-- the number of the first top-level step that counts, and of the first on the attribute axis, 0 where none is; and is the top path absolute?
 unfoldable pub countingStep : Tree → ℕ
 countingStep none = 0
-countingStep (node op a b c d) = firstCounting a
+countingStep (node op a b c d) = firstStep isCounting a
+
+unfoldable pub attributeStep : Tree → ℕ
+attributeStep none = 0
+attributeStep (node op a b c d) = firstStep isOfAttributes a
 
 unfoldable pub absolutePath : Tree → Bool
 absolutePath none = false
 absolutePath (node op a b c d) = isAbsolute op
 
--- turning. 9: a step counts; 10: the path is absolute; 11: rows + 1 above 256, or the output shorter than 5 times that
+-- turning. 9: a step counts; 13: a step is on the attribute axis; 10: the path is absolute; 11: rows + 1 above 256, or the output shorter than 5 times that
 unfoldable pub turning : List ℕ → List Float → ℕ → Answer
 turning p literals room =
     pathChecks p literals
     (check (ltb 0 (countingStep (pathTree p))) 9 (countingStep (pathTree p))
+    (check (ltb 0 (attributeStep (pathTree p))) 13 (attributeStep (pathTree p))
     (check (absolutePath (pathTree p)) 10 0
     (check (ltb mostPathRows (rowsOf p + 1) || ltb room (5 * (rowsOf p + 1))) 11 (rowsOf p + 1)
-    (answer 0 (rowsOf p + 1)))))
+    (answer 0 (rowsOf p + 1))))))
 
 -- the rows of the turned path
 abbrev pub turnedRows : List ℕ → List ℕ

@@ -1,5 +1,5 @@
--- The eleven axes, an axis's nodes and their places, the tests and an axis's candidates (document 01, "The path form" and "Meaning";
--- document 02, W-203).
+-- The twelve axes, an axis's nodes and their places, the tests and an axis's candidates (document 01, "The path form" and "Meaning";
+-- document 02, W-203 and W-209).
 -- Assumes nothing: these are definitions.
 use Prim.Native.Nat.{ℕ, _-_}
 use mathlib.Core.Bool.{Bool, true, false, _&&_, _||_, not, cond}
@@ -7,43 +7,53 @@ use mathlib.Core.List.{List, [], _∷_}
 use lib.ListN.{getD}
 use lib.Dec.{leb, ltb, eqb}
 use Rattle.meaning.specs.Lists.{upTo, downFrom, keep, placeFrom}
-use Rattle.meaning.specs.Table.{kind, name, parentOf, rows, end, isElement, isText, siblingBefore}
+use Rattle.meaning.specs.Table.{kind, name, parentOf, rows, end, isText, isAttribute, siblingBefore}
 
 pub data Axis : Type 0 where
-  self child parent descendant ancestor descendant-or-self ancestor-or-self following preceding following-sibling preceding-sibling : Axis
+  self child parent descendant ancestor descendant-or-self ancestor-or-self following preceding following-sibling preceding-sibling attribute : Axis
 
--- axes 0 to 10, each at its number
+-- axes 0 to 11, each at its number
 abbrev pub axes : List Axis
 axes =
     self ∷ child ∷ parent ∷ descendant ∷ ancestor ∷ descendant-or-self ∷ ancestor-or-self
-    ∷ following ∷ preceding ∷ following-sibling ∷ preceding-sibling ∷ []
+    ∷ following ∷ preceding ∷ following-sibling ∷ preceding-sibling ∷ attribute ∷ []
 
--- the number of the last one
+-- the number of the last one, attribute
 abbrev pub lastAxis : ℕ
-lastAxis = 10
+lastAxis = 11
 
 -- the axis with a number; no axis has a number above the last, and no accepted path names one
 unfoldable pub axisOf : ℕ → Axis
 axisOf n = getD axes n self
 
--- is y a descendant of x?
+-- is x the parent of y? The root has none
+unfoldable pub under : List ℕ → ℕ → ℕ → Bool
+under t x y = ltb 0 y && eqb (parentOf t y) x
+
+-- does y stand inside x, below it in the tree?
 unfoldable pub inside : List ℕ → ℕ → ℕ → Bool
 inside t x y = ltb x y && leb y (end t x)
 
+-- is y later than x, and not inside it?
+unfoldable pub after : List ℕ → ℕ → ℕ → Bool
+after t x y = ltb x y && not (inside t x y)
+
 -- is y on the axis of x? following is every later node that is not a descendant, preceding every earlier node that
--- is not an ancestor; siblings share a parent; the root has none
+-- is not an ancestor; siblings share a parent, the root has none. An attribute lies on no child, descendant, following, preceding or sibling
+-- axis of any node, and has no siblings
 unfoldable pub on : List ℕ → Axis → ℕ → ℕ → Bool
 on t self x y = eqb x y
-on t child x y = ltb 0 y && eqb (parentOf t y) x
-on t parent x y = ltb 0 x && eqb (parentOf t x) y
-on t descendant x y = inside t x y
+on t child x y = under t x y && not (isAttribute t y)
+on t parent x y = under t y x
+on t descendant x y = inside t x y && not (isAttribute t y)
 on t ancestor x y = inside t y x
-on t descendant-or-self x y = eqb x y || inside t x y
+on t descendant-or-self x y = eqb x y || (inside t x y && not (isAttribute t y))
 on t ancestor-or-self x y = eqb x y || inside t y x
-on t following x y = ltb x y && not (inside t x y)
-on t preceding x y = ltb y x && not (inside t y x)
+on t following x y = after t x y && not (isAttribute t y)
+on t preceding x y = after t y x && not (isAttribute t y)
 on t following-sibling x y = siblingBefore t y x
 on t preceding-sibling x y = siblingBefore t x y
+on t attribute x y = under t x y && isAttribute t y
 
 -- descending order for axes 2, 4, 6, 8, 10, ascending order for the others
 unfoldable pub isReverse : Axis → Bool
@@ -58,6 +68,7 @@ isReverse following = false
 isReverse preceding = true
 isReverse following-sibling = false
 isReverse preceding-sibling = true
+isReverse attribute = false
 
 -- the rows in document order, or in reverse
 unfoldable pub ordered : Bool → ℕ → List ℕ
@@ -71,23 +82,38 @@ axisNodes t axis x = keep (on t axis x) (ordered (isReverse axis) (rows t))
 unfoldable pub place : List ℕ → Axis → ℕ → ℕ → ℕ
 place t axis x y = placeFrom 1 (axisNodes t axis x) y
 
+-- the kind that `*` and names match on an axis: attributes on the attribute axis, elements on all others
+unfoldable pub principal : Axis → ℕ
+principal self = 1
+principal child = 1
+principal parent = 1
+principal descendant = 1
+principal ancestor = 1
+principal descendant-or-self = 1
+principal ancestor-or-self = 1
+principal following = 1
+principal preceding = 1
+principal following-sibling = 1
+principal preceding-sibling = 1
+principal attribute = 5
+
 pub data Test : Type 0 where
-  any-node any-element text comment instruction : Test
-  element : ℕ → Test
+  any-node star text comment instruction : Test
+  named : ℕ → Test
 
--- tests 0 to 4, and 16 + k an element named k
+-- tests 0 to 4, and 16 + k for the name k
 unfoldable pub testOf : ℕ → Test
-testOf n = cond (leb n 4) (getD (any-node ∷ any-element ∷ text ∷ comment ∷ instruction ∷ []) n any-node) (element (n - 16))
+testOf n = cond (leb n 4) (getD (any-node ∷ star ∷ text ∷ comment ∷ instruction ∷ []) n any-node) (named (n - 16))
 
--- does node y pass the test?
-unfoldable pub passes : List ℕ → Test → ℕ → Bool
-passes t any-node y = true
-passes t any-element y = isElement t y
-passes t text y = isText t y
-passes t comment y = eqb (kind t y) 3
-passes t instruction y = eqb (kind t y) 4
-passes t (element k) y = isElement t y && eqb (name t y) k
+-- does node y pass the test, where `*` and names match the kind k?
+unfoldable pub passes : List ℕ → ℕ → Test → ℕ → Bool
+passes t k any-node y = true
+passes t k star y = eqb (kind t y) k
+passes t k text y = isText t y
+passes t k comment y = eqb (kind t y) 3
+passes t k instruction y = eqb (kind t y) 4
+passes t k (named n) y = eqb (kind t y) k && eqb (name t y) n
 
 -- the axis nodes of x that pass the test, in axis order
 unfoldable pub candidates : List ℕ → Axis → Test → ℕ → List ℕ
-candidates t axis test x = keep (passes t test) (axisNodes t axis x)
+candidates t axis test x = keep (passes t (principal axis) test) (axisNodes t axis x)

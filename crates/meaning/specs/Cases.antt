@@ -8,13 +8,13 @@ use lib.ListN.{length, drop, replicate}
 use lib.Ieee.{Float, binary64, ofBits}
 use lib.Ieee as Ieee
 use Rattle.meaning.specs.Lists.{upTo, downFrom, keep, some, placeFrom, lowest}
-use Rattle.meaning.specs.Table.{lengthAllowed, hasElement, goodRoot, goodName, goodSize, nearest, goodParent, textOfRoot, elementOfRoot, laterElement, previousSibling, textAfterText, goodRow, broken, accepted}
-use Rattle.meaning.specs.Axis.{axisOf, inside, on, testOf, passes, isReverse, ordered, axisNodes, place, candidates}
+use Rattle.meaning.specs.Table.{lengthAllowed, hasElement, goodRoot, goodName, goodSize, nearest, goodParent, textOfRoot, elementOfRoot, laterElement, previousSibling, textAfterText, amongAttributes, strayAttribute, sameAttribute, attributeAgain, goodRow, broken, accepted}
+use Rattle.meaning.specs.Axis.{axisOf, under, inside, after, on, principal, testOf, passes, isReverse, ordered, axisNodes, place, candidates}
 use Rattle.meaning.specs.Rows.{rowsOf, pathLengthAllowed, badLiteral, badLiteralAt, opOf, fieldsOf, code, isNumber, isTruth, isPath, isStep, isPredicate, isLiteral, isUnknown, isLink, takes, mayMiss, goodLink, goodTest, goodField, goodFields, follow, firstLink, secondLink, links, linkedBelow, linksAgain, misplaced, brokenRow}
 use Rattle.meaning.specs.Tree.{indexOrAxis, testAt, linked, tree, depth}
 use Rattle.meaning.specs.Meaning.{float, nonzero, applied, keepAt, isAbsolute, startOf, union, value, select, walk, filtered}
-use Rattle.meaning.specs.Turning.{contextual, overPath, numeric, asks, counting, steps, counts, firstCounting, inverseOf, predicates, test, back, turned, weight, link, row, written}
-use Rattle.meaning.specs.Answers.{tableChecks, tableAnswer, askable, axisPlace, pathChecks, evaluation, output, evaluated, countingStep, absolutePath, turning, turnedOutput}
+use Rattle.meaning.specs.Turning.{contextual, overPath, numeric, asks, counting, steps, someStep, firstStep, inverseOf, predicates, test, back, turned, weight, link, row, written}
+use Rattle.meaning.specs.Answers.{tableChecks, tableAnswer, askable, axisPlace, pathChecks, evaluation, output, evaluated, countingStep, attributeStep, absolutePath, turning, turnedOutput}
 use Rattle.meaning.specs.declared.Answer.{Answer}
 
 -- a row of a table, and a row of a path, before those behind it
@@ -38,17 +38,48 @@ reference =
     (node 1 4 6 0
     [])))))))))
 
--- a path run on the reference tree from a node with the nodes that it selects, a path turned with the rows that come out, an axis of
--- a node with nodes of the tree and their places, or a table with its number and place
+-- two tables with attributes: element 1 with attributes 2 and 3, in it element 4 with attribute 5 and text 6, comment 7, element 8; and
+-- comment 1, element 2 with attributes 3 and 4, text 5, element 6 with attribute 7 and comment 8, text 9, instruction 10
+abbrev pub attributed : List ℕ
+attributed =
+    node 0 0 0 8
+    (node 1 1 0 7
+    (node 5 1 1 0
+    (node 5 2 1 0
+    (node 1 2 1 2
+    (node 5 1 4 0
+    (node 2 0 4 0
+    (node 3 0 1 0
+    (node 1 1 1 0
+    []))))))))
+
+abbrev pub surrounded : List ℕ
+surrounded =
+    node 0 0 0 10
+    (node 3 0 0 0
+    (node 1 1 0 7
+    (node 5 1 2 0
+    (node 5 2 2 0
+    (node 2 0 2 0
+    (node 1 2 2 2
+    (node 5 1 6 0
+    (node 3 0 6 0
+    (node 2 0 2 0
+    (node 4 9 0 0
+    []))))))))))
+
+-- a path run on a table from a node with the nodes that it selects, a path turned with the rows that come out, or with its refusal, an
+-- axis of a node with nodes of the table and their places, or a table with its number and place
 pub data Case : Type 0 where
-  selects : List ℕ → List Float → ℕ → List ℕ → Case
-  turns : List ℕ → List ℕ → Case
-  stand : ℕ → ℕ → List ℕ → List ℕ → Case
+  selects : List ℕ → List ℕ → List Float → ℕ → List ℕ → Case
+  turns : List ℕ → List Float → List ℕ → Case
+  unturned : List ℕ → List Float → ℕ → ℕ → Case
+  stand : List ℕ → ℕ → ℕ → List ℕ → List ℕ → Case
   checked : List ℕ → ℕ → ℕ → Case
 
 -- what the output slice holds before the run
 abbrev pub blank : List ℕ
-blank = replicate 26 99
+blank = replicate 46 99
 
 -- number, place and the output slice
 abbrev pub outcome : Answer → List ℕ → List ℕ
@@ -56,17 +87,19 @@ outcome a out = a .number ∷ a .place ∷ out
 
 -- what the definitions give
 unfoldable pub given : Case → List ℕ
-given (selects p literals start nodes) =
-    outcome (evaluation reference p literals start (length blank)) (evaluated reference p literals start blank)
-given (turns p rows) = outcome (turning p [] (length blank)) (turnedOutput p [] blank)
-given (stand axis x nodes places) = map (axisPlace reference axis x) nodes
+given (selects t p literals start nodes) =
+    outcome (evaluation t p literals start (length blank)) (evaluated t p literals start blank)
+given (turns p literals rows) = outcome (turning p literals (length blank)) (turnedOutput p literals blank)
+given (unturned p literals number place) = outcome (turning p literals (length blank)) (turnedOutput p literals blank)
+given (stand t axis x nodes places) = map (axisPlace t axis x) nodes
 given (checked t number place) = outcome (tableAnswer t) []
 
 -- what the documents list
 unfoldable pub listed : Case → List ℕ
-listed (selects p literals start nodes) = 0 ∷ length nodes ∷ nodes ++ drop (length nodes) blank
-listed (turns p rows) = 0 ∷ rowsOf rows ∷ rows ++ drop (length rows) blank
-listed (stand axis x nodes places) = places
+listed (selects t p literals start nodes) = 0 ∷ length nodes ∷ nodes ++ drop (length nodes) blank
+listed (turns p literals rows) = 0 ∷ rowsOf rows ∷ rows ++ drop (length rows) blank
+listed (unturned p literals number place) = number ∷ place ∷ blank
+listed (stand t axis x nodes places) = places
 listed (checked t number place) = number ∷ place ∷ []
 
 unfoldable pub each : (Case → List ℕ) → List Case → List (List ℕ)
@@ -84,6 +117,13 @@ thirteenthTurned = line 24 0 0 0 20 (line 24 1 0 2 18 (line 24 2 0 2 0 (line 22 
 abbrev pub thirteenthTwice : List ℕ
 thirteenthTwice = line 24 0 0 0 0 (line 24 1 0 1 18 (line 24 2 0 1 20 (line 24 3 0 0 0 (line 22 4 0 0 0 []))))
 
+-- a path of one step on an axis with a test; the same with [1] behind it
+abbrev pub one : ℕ → ℕ → List ℕ
+one axis test = line 24 0 0 axis test (line 22 1 0 0 0 [])
+
+abbrev pub numbered : ℕ → ℕ → List ℕ
+numbered axis test = line 1 0 0 0 0 (line 25 0 1 0 0 (line 24 0 2 axis test (line 22 3 0 0 0 [])))
+
 abbrev pub half : Float
 half = ofBits binary64 0x3FE0000000000000
 
@@ -100,50 +140,54 @@ half = ofBits binary64 0x3FE0000000000000
 -- W-206: the single row; no element, beside a broken row and where a kind is 7; an element that is broken itself, that stands behind a
 -- broken row, and that is no child of the root; a text before the element and one behind it; a second element; two texts side by side;
 -- text, element that ends in a text, text; text, comment, text
+-- W-209: a table with attributes is accepted; a size that leaves out an attribute, an attribute behind a comment, under the root, and the
+-- third of names 1, 2, 1 are broken; the axes of an attribute, and of its element with tests; positions and places on axis 11 and beside
+-- attributes; following and preceding of an attribute among others; turning refused for a step that counts behind one on axis 11, for an
+-- absolute path on axis 11 and for the second step; axis 11 in a predicate turned
 abbrev pub cases : List Case
 cases =
-    selects (line 23 0 0 0 0 []) [] 5 (0 ∷ [])
-    ∷ selects (line 24 0 0 8 0 (line 22 1 0 0 0 [])) [] 8 (2 ∷ 3 ∷ 4 ∷ 5 ∷ 7 ∷ [])
-    ∷ selects (line 24 0 0 7 0 (line 22 1 0 0 0 [])) [] 4 (5 ∷ 6 ∷ 7 ∷ 8 ∷ 9 ∷ [])
-    ∷ selects (line 1 0 0 0 0 (line 25 0 1 0 0 (line 24 0 2 4 0 (line 22 3 0 0 0 [])))) (float 3 ∷ []) 9 (0 ∷ [])
-    ∷ selects (line 1 0 0 0 0 (line 25 0 1 0 0 (line 24 0 2 8 0 (line 22 3 0 0 0 [])))) (float 1 ∷ []) 9 (8 ∷ [])
-    ∷ selects
+    selects reference (line 23 0 0 0 0 []) [] 5 (0 ∷ [])
+    ∷ selects reference (line 24 0 0 8 0 (line 22 1 0 0 0 [])) [] 8 (2 ∷ 3 ∷ 4 ∷ 5 ∷ 7 ∷ [])
+    ∷ selects reference (line 24 0 0 7 0 (line 22 1 0 0 0 [])) [] 4 (5 ∷ 6 ∷ 7 ∷ 8 ∷ 9 ∷ [])
+    ∷ selects reference (line 1 0 0 0 0 (line 25 0 1 0 0 (line 24 0 2 4 0 (line 22 3 0 0 0 [])))) (float 3 ∷ []) 9 (0 ∷ [])
+    ∷ selects reference (line 1 0 0 0 0 (line 25 0 1 0 0 (line 24 0 2 8 0 (line 22 3 0 0 0 [])))) (float 1 ∷ []) 9 (8 ∷ [])
+    ∷ selects reference
     (line 24 0 0 3 1 (line 2 0 0 0 0 (line 3 0 0 0 0 (line 1 0 0 0 0 (line 6 3 4 0 0 (line 14 2 5 0 0
     (line 25 0 6 0 0 (line 24 1 7 3 1 (line 23 8 0 0 0 [])))))))))
     (half ∷ []) 0 (4 ∷ 5 ∷ 6 ∷ 7 ∷ 8 ∷ 9 ∷ [])
-    ∷ selects (line 1 0 0 0 0 (line 25 0 1 0 0 (line 24 0 2 3 20 (line 23 3 0 0 0 [])))) (float 1 ∷ []) 0 (5 ∷ [])
-    ∷ selects (line 24 0 0 5 0 (line 1 0 0 0 0 (line 25 0 2 0 0 (line 24 1 3 1 20 (line 23 4 0 0 0 []))))) (float 1 ∷ []) 0 (5 ∷ 8 ∷ [])
-    ∷ selects
+    ∷ selects reference (line 1 0 0 0 0 (line 25 0 1 0 0 (line 24 0 2 3 20 (line 23 3 0 0 0 [])))) (float 1 ∷ []) 0 (5 ∷ [])
+    ∷ selects reference (line 24 0 0 5 0 (line 1 0 0 0 0 (line 25 0 2 0 0 (line 24 1 3 1 20 (line 23 4 0 0 0 []))))) (float 1 ∷ []) 0 (5 ∷ 8 ∷ [])
+    ∷ selects reference
     (line 1 0 0 0 0 (line 25 0 1 0 0 (line 1 1 0 0 0 (line 25 2 3 0 0 (line 24 0 4 1 1 (line 22 5 0 0 0 []))))))
     (float 1 ∷ float 2 ∷ []) 6 []
-    ∷ selects
+    ∷ selects reference
     (line 2 0 0 0 0 (line 1 0 0 0 0 (line 14 1 2 0 0 (line 25 0 3 0 0 (line 1 0 0 0 0 (line 25 4 5 0 0
     (line 24 0 6 1 1 (line 22 7 0 0 0 []))))))))
     (float 1 ∷ []) 6 (8 ∷ [])
-    ∷ selects
+    ∷ selects reference
     (line 2 0 0 0 0 (line 1 0 0 0 0 (line 14 1 2 0 0 (line 25 0 3 0 0 (line 3 0 0 0 0 (line 25 4 5 0 0
     (line 24 0 6 1 1 (line 22 7 0 0 0 []))))))))
     (float 1 ∷ []) 6 (9 ∷ [])
-    ∷ selects
+    ∷ selects reference
     (line 24 0 0 1 20 (line 22 1 0 0 0 (line 21 2 0 0 0 (line 1 0 0 0 0 (line 10 3 4 0 0 (line 25 0 5 0 0
     (line 24 0 6 1 1 (line 22 7 0 0 0 []))))))))
     (float 2 ∷ []) 1 (6 ∷ [])
-    ∷ selects
+    ∷ selects reference
     (line 1 0 0 0 0 (line 1 0 0 0 0 (line 7 1 2 0 0 (line 1 0 0 0 0 (line 1 0 0 0 0 (line 7 4 5 0 0
     (line 11 3 6 0 0 (line 25 0 7 0 0 (line 24 0 8 1 1 (line 22 9 0 0 0 []))))))))))
     (float 0 ∷ []) 1 (2 ∷ 6 ∷ [])
-    ∷ selects (line 24 0 0 2 1 (line 22 1 0 0 0 [])) [] 1 []
-    ∷ selects (line 24 0 0 2 0 (line 22 1 0 0 0 [])) [] 1 (0 ∷ [])
-    ∷ turns thirteenth thirteenthTurned
-    ∷ selects thirteenth [] 1 (5 ∷ 8 ∷ 9 ∷ [])
-    ∷ selects thirteenthTurned [] 8 (1 ∷ [])
-    ∷ turns thirteenthTurned thirteenthTwice
-    ∷ selects thirteenthTwice [] 1 (5 ∷ 8 ∷ 9 ∷ [])
-    ∷ stand 8 8 (upTo 10) (0 ∷ 0 ∷ 5 ∷ 4 ∷ 3 ∷ 2 ∷ 0 ∷ 1 ∷ 0 ∷ 0 ∷ [])
-    ∷ stand 4 9 (upTo 10) (3 ∷ 2 ∷ 0 ∷ 0 ∷ 0 ∷ 0 ∷ 1 ∷ 0 ∷ 0 ∷ 0 ∷ [])
-    ∷ stand 9 0 (upTo 10) (replicate 10 0)
-    ∷ stand 0 10 (10 ∷ []) (0 ∷ [])
-    ∷ stand 8 10 (3 ∷ []) (0 ∷ [])
+    ∷ selects reference (line 24 0 0 2 1 (line 22 1 0 0 0 [])) [] 1 []
+    ∷ selects reference (line 24 0 0 2 0 (line 22 1 0 0 0 [])) [] 1 (0 ∷ [])
+    ∷ turns thirteenth [] thirteenthTurned
+    ∷ selects reference thirteenth [] 1 (5 ∷ 8 ∷ 9 ∷ [])
+    ∷ selects reference thirteenthTurned [] 8 (1 ∷ [])
+    ∷ turns thirteenthTurned [] thirteenthTwice
+    ∷ selects reference thirteenthTwice [] 1 (5 ∷ 8 ∷ 9 ∷ [])
+    ∷ stand reference 8 8 (upTo 10) (0 ∷ 0 ∷ 5 ∷ 4 ∷ 3 ∷ 2 ∷ 0 ∷ 1 ∷ 0 ∷ 0 ∷ [])
+    ∷ stand reference 4 9 (upTo 10) (3 ∷ 2 ∷ 0 ∷ 0 ∷ 0 ∷ 0 ∷ 1 ∷ 0 ∷ 0 ∷ 0 ∷ [])
+    ∷ stand reference 9 0 (upTo 10) (replicate 10 0)
+    ∷ stand reference 0 10 (10 ∷ []) (0 ∷ [])
+    ∷ stand reference 8 10 (3 ∷ []) (0 ∷ [])
     ∷ checked (node 0 0 0 0 []) 2 0
     ∷ checked (node 0 0 0 1 (node 2 9 0 0 [])) 2 0
     ∷ checked (node 0 0 0 1 (node 7 1 0 0 [])) 2 0
@@ -156,9 +200,47 @@ cases =
     ∷ checked (node 0 0 0 3 (node 1 1 0 2 (node 2 0 1 0 (node 2 0 1 0 [])))) 2 3
     ∷ checked (node 0 0 0 5 (node 1 1 0 4 (node 2 0 1 0 (node 1 2 1 1 (node 2 0 3 0 (node 2 0 1 0 [])))))) 0 6
     ∷ checked (node 0 0 0 4 (node 1 1 0 3 (node 2 0 1 0 (node 3 0 1 0 (node 2 0 1 0 []))))) 0 5
+    ∷ checked attributed 0 9
+    ∷ checked (node 0 0 0 2 (node 1 1 0 0 (node 5 1 1 0 []))) 2 2
+    ∷ checked (node 0 0 0 3 (node 1 1 0 2 (node 3 0 1 0 (node 5 1 1 0 [])))) 2 3
+    ∷ checked (node 0 0 0 2 (node 5 1 0 0 (node 1 1 0 0 []))) 2 1
+    ∷ checked (node 0 0 0 4 (node 1 1 0 3 (node 5 1 1 0 (node 5 2 1 0 (node 5 1 1 0 []))))) 2 4
+    ∷ selects attributed (one 0 0) [] 2 (2 ∷ [])
+    ∷ selects attributed (one 0 1) [] 2 []
+    ∷ selects attributed (one 0 17) [] 2 []
+    ∷ selects attributed (one 2 1) [] 2 (1 ∷ [])
+    ∷ selects attributed (one 4 0) [] 2 (0 ∷ 1 ∷ [])
+    ∷ selects attributed (one 5 0) [] 2 (2 ∷ [])
+    ∷ selects attributed (one 6 1) [] 2 (1 ∷ [])
+    ∷ selects attributed (one 7 0) [] 2 (4 ∷ 6 ∷ 7 ∷ 8 ∷ [])
+    ∷ selects attributed (one 8 0) [] 5 []
+    ∷ selects attributed (one 10 0) [] 3 []
+    ∷ selects attributed (one 11 0) [] 2 []
+    ∷ selects attributed (one 11 1) [] 1 (2 ∷ 3 ∷ [])
+    ∷ selects attributed (one 11 18) [] 1 (3 ∷ [])
+    ∷ selects attributed (one 11 2) [] 1 []
+    ∷ selects attributed (one 3 0) [] 0 (1 ∷ 4 ∷ 6 ∷ 7 ∷ 8 ∷ [])
+    ∷ selects attributed (numbered 11 1) (float 2 ∷ []) 1 (3 ∷ [])
+    ∷ selects attributed (numbered 11 18) (float 1 ∷ []) 1 (3 ∷ [])
+    ∷ selects attributed (numbered 1 0) (float 1 ∷ []) 1 (4 ∷ [])
+    ∷ stand attributed 11 1 (upTo 9) (0 ∷ 0 ∷ 1 ∷ 2 ∷ 0 ∷ 0 ∷ 0 ∷ 0 ∷ 0 ∷ [])
+    ∷ stand attributed 12 1 (1 ∷ 2 ∷ []) (0 ∷ 0 ∷ [])
+    ∷ selects surrounded (one 7 0) [] 4 (5 ∷ 6 ∷ 8 ∷ 9 ∷ 10 ∷ [])
+    ∷ selects surrounded (one 8 0) [] 4 (1 ∷ [])
+    ∷ unturned
+    (line 24 0 0 11 18 (line 1 0 0 0 0 (line 25 0 2 0 0 (line 24 1 3 1 17 (line 22 4 0 0 0 [])))))
+    (float 1 ∷ []) 9 2
+    ∷ unturned (line 24 0 0 11 18 (line 23 1 0 0 0 [])) [] 13 1
+    ∷ unturned (line 24 0 0 0 0 (line 24 1 0 11 1 (line 24 2 0 2 1 (line 24 3 0 11 1 (line 22 4 0 0 0 []))))) [] 13 2
+    ∷ turns
+    (line 1 0 0 0 0 (line 25 0 1 0 0 (line 24 0 2 11 1 (line 22 3 0 0 0 (line 20 4 0 0 0 (line 25 0 5 0 0
+    (line 24 0 6 1 17 (line 22 7 0 0 0 []))))))))
+    (float 1 ∷ [])
+    (line 1 0 0 0 0 (line 25 0 1 0 0 (line 24 0 2 11 1 (line 22 3 0 0 0 (line 20 4 0 0 0 (line 25 0 5 0 0
+    (line 24 0 6 0 17 (line 24 7 0 2 0 (line 22 8 0 0 0 [])))))))))
     ∷ []
 
 -- the definitions give what the documents list
 pub r1-to-r13 : each given cases ≡ each listed cases
-unfolding each given listed upTo downFrom keep some placeFrom lowest lengthAllowed hasElement goodRoot goodName goodSize nearest goodParent textOfRoot elementOfRoot laterElement previousSibling textAfterText goodRow broken accepted axisOf inside on testOf passes isReverse ordered axisNodes place candidates pathLengthAllowed badLiteral badLiteralAt opOf fieldsOf code isNumber isTruth isPath isStep isPredicate isLiteral isUnknown isLink takes mayMiss goodLink goodTest goodField goodFields follow firstLink secondLink links linkedBelow linksAgain misplaced brokenRow indexOrAxis testAt linked tree depth float nonzero applied keepAt isAbsolute startOf union value select walk filtered contextual overPath numeric asks counting steps counts firstCounting inverseOf predicates test back turned weight link row written tableChecks tableAnswer askable axisPlace pathChecks evaluation output evaluated countingStep absolutePath turning turnedOutput Ieee.isNan Ieee.toBits Ieee.ofBits Ieee.ofInt Ieee.eq Ieee.ne Ieee.lt Ieee.le Ieee.add Ieee.sub Ieee.mul Ieee.div Ieee.rem Ieee.neg
+unfolding each given listed upTo downFrom keep some placeFrom lowest lengthAllowed hasElement goodRoot goodName goodSize nearest goodParent textOfRoot elementOfRoot laterElement previousSibling textAfterText amongAttributes strayAttribute sameAttribute attributeAgain goodRow broken accepted axisOf under inside after on principal testOf passes isReverse ordered axisNodes place candidates pathLengthAllowed badLiteral badLiteralAt opOf fieldsOf code isNumber isTruth isPath isStep isPredicate isLiteral isUnknown isLink takes mayMiss goodLink goodTest goodField goodFields follow firstLink secondLink links linkedBelow linksAgain misplaced brokenRow indexOrAxis testAt linked tree depth float nonzero applied keepAt isAbsolute startOf union value select walk filtered contextual overPath numeric asks counting steps someStep firstStep inverseOf predicates test back turned weight link row written tableChecks tableAnswer askable axisPlace pathChecks evaluation output evaluated countingStep attributeStep absolutePath turning turnedOutput Ieee.isNan Ieee.toBits Ieee.ofBits Ieee.ofInt Ieee.eq Ieee.ne Ieee.lt Ieee.le Ieee.add Ieee.sub Ieee.mul Ieee.div Ieee.rem Ieee.neg
 r1-to-r13 = refl

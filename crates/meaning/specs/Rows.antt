@@ -202,7 +202,7 @@ goodLink p r f l = cond (eqb l 0) (mayMiss f) (leb l r && takes f (opAt p (l - 1
 unfoldable pub goodTest : ℕ → Bool
 goodTest n = leb n 4 || (leb 17 n && leb n 65551)
 
--- is v allowed in a field of row r? A literal index is below the number of literals; axes are 0 to 10
+-- is v allowed in a field of row r? A literal index is below the number of literals; axes are 0 to 11
 unfoldable pub goodField : List ℕ → ℕ → ℕ → Field → ℕ → Bool
 goodField p literals r unused v = eqb v 0
 goodField p literals r index v = ltb v literals

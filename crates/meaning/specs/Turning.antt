@@ -1,10 +1,12 @@
--- A path turned round (document 01, "Turning round"): which steps count, inverse axes, the turned tree, rows in postorder.
+-- A path turned round (document 01, "Turning round"; document 02, W-209): which steps count, which are on the attribute axis, inverse axes,
+-- the turned tree, rows in postorder.
 -- Assumes nothing: these are definitions.
 use Prim.Native.Nat.{ℕ, _+_}
 use mathlib.Core.Bool.{Bool, false, _&&_, _||_, not, cond}
 use mathlib.Core.List.{List, [], _∷_, _++_}
 use lib.ListN.{getD}
 use lib.Dec.{eqb}
+use Rattle.meaning.specs.Axis.{lastAxis}
 use Rattle.meaning.specs.Rows.{Op, code, isNumber, isLiteral}
 use Rattle.meaning.specs.Rows as R
 use Rattle.meaning.specs.Tree.{Tree, none, node}
@@ -37,21 +39,36 @@ unfoldable pub steps : Tree → ℕ
 steps none = 0
 steps (node op a b c d) = steps a + 1
 
--- does a step of a chain count?
-unfoldable pub counts : Tree → Bool
-counts none = false
-counts (node op a b c d) = counts a || counting b
+-- do the predicates and the axis of some step of a chain fit?
+unfoldable pub someStep : (Tree → ℕ → Bool) → Tree → Bool
+someStep fit none = false
+someStep fit (node op a b c d) = someStep fit a || fit b c
 
--- the number, from 1, of the first step of a chain that counts; 0 where none does
-unfoldable pub firstCounting : Tree → ℕ
-firstCounting none = 0
-firstCounting (node op a b c d) =
-    let r : ℕ = firstCounting a in
-    cond (eqb r 0) (cond (counting b) (steps a + 1) 0) r
+-- the number, from 1, of the first step of a chain whose predicates and axis fit; 0 where none does
+unfoldable pub firstStep : (Tree → ℕ → Bool) → Tree → ℕ
+firstStep fit none = 0
+firstStep fit (node op a b c d) =
+    let r : ℕ = firstStep fit a in
+    cond (eqb r 0) (cond (fit b c) (steps a + 1) 0) r
 
--- inverse axes: 0 with itself; 1 and 2, 3 and 4, 5 and 6, 7 and 8, 9 and 10 with each other
+-- does a step count: by its predicates
+abbrev pub isCounting : Tree → ℕ → Bool
+isCounting predicates axis = counting predicates
+
+-- is it on the attribute axis?
+abbrev pub isOfAttributes : Tree → ℕ → Bool
+isOfAttributes predicates axis = eqb axis lastAxis
+
+-- does a step of a chain count? Is one on the attribute axis?
+abbrev pub counts : Tree → Bool
+counts s = someStep isCounting s
+
+abbrev pub ofAttributes : Tree → Bool
+ofAttributes s = someStep isOfAttributes s
+
+-- inverse axes: 0 with itself; 1 and 2, 3 and 4, 5 and 6, 7 and 8, 9 and 10 with each other; 11 has none, and 0 fills its place
 abbrev pub inverses : List ℕ
-inverses = 0 ∷ 2 ∷ 1 ∷ 4 ∷ 3 ∷ 6 ∷ 5 ∷ 8 ∷ 7 ∷ 10 ∷ 9 ∷ []
+inverses = 0 ∷ 2 ∷ 1 ∷ 4 ∷ 3 ∷ 6 ∷ 5 ∷ 8 ∷ 7 ∷ 10 ∷ 9 ∷ 0 ∷ []
 
 unfoldable pub inverseOf : ℕ → ℕ
 inverseOf n = getD inverses n 0

@@ -5,7 +5,7 @@
 pub const MOST_ROWS: usize = 4096;
 
 // The number of the last axis, which `lastAxis` names in the definitions.
-pub const LAST_AXIS: usize = 10;
+pub const LAST_AXIS: usize = 11;
 
 // The value of an expression is either a truth or a number.
 pub enum Value {

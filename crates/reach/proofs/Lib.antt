@@ -1,2 +1,3 @@
 mod Sweep
 pub mod Accepted
+mod Ways

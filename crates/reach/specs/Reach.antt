@@ -1,21 +1,24 @@
--- What an axis reaches from a set of nodes, as marks: a Bool for each row, in and out.
+-- What an axis, or the way back along it, reaches from a set of nodes, as marks: a Bool for each row, in and out.
 -- Assumes nothing: these are definitions.
 use Prim.Native.Nat.{ℕ, _<_, _≤_}
 use mathlib.Core.Path.{_≡_}
-use mathlib.Core.Bool.{Bool, false, _&&_}
+use mathlib.Core.Bool.{Bool, false, _&&_, cond}
 use mathlib.Core.List.{List}
 use lib.ListN.{length, getD}
 use Rattle.meaning.specs.Lists.{upTo, some}
-use Rattle.meaning.specs.Table.{mostRows, rows, parentOf}
-use Rattle.meaning.specs.Axis.{Axis, on}
+use Rattle.meaning.specs.Table.{mostRows, rows, parentOf, isAttribute}
 
--- does some marked x have y on its axis?
-unfoldable pub hit : List ℕ → Axis → List Bool → ℕ → Bool
-hit t a from y = some (λ x. getD from x false && on t a x y) (upTo (rows t))
+-- is y what r says of some marked x?
+unfoldable pub hit : List ℕ → (ℕ → ℕ → Bool) → List Bool → ℕ → Bool
+hit t r from y = some (λ x. getD from x false && r x y) (upTo (rows t))
 
--- a row is marked exactly if it is on the axis of some marked row
-unfoldable pub Hits : List ℕ → Axis → List Bool → List Bool → Type 0
-Hits t a from to = (y : ℕ) → y < rows t → getD to y false ≡ hit t a from y
+-- a row is marked exactly if it is what r says of some marked row: on its axis, or with it on its own axis
+unfoldable pub Hits : List ℕ → (ℕ → ℕ → Bool) → List Bool → List Bool → Type 0
+Hits t r from to = (y : ℕ) → y < rows t → getD to y false ≡ hit t r from y
+
+-- is row i one of those asked for: of the attributes, of the other rows, or both?
+unfoldable pub admitted : List ℕ → Bool → Bool → ℕ → Bool
+admitted t others attributes i = cond (isAttribute t i) attributes others
 
 -- no row's parent stands after it
 unfoldable pub Rooted : List ℕ → Type 0

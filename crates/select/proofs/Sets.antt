@@ -13,11 +13,11 @@ use native.Mathlib.Omega.{arith}
 use borrow.Author.Tests.{eq-eqb}
 use Rattle.meaning.specs.Lists.{upTo, some, has}
 use Rattle.meaning.specs.Table.{rows}
-use Rattle.meaning.specs.Axis.{axisOf, testOf, on, passes}
+use Rattle.meaning.specs.Axis.{axisOf, testOf, on, principal, passes}
 use Rattle.meaning.specs.Rows.{field, firstLink, secondLink}
 use Rattle.meaning.specs.Tree.{Tree, tree, indexOrAxis, testAt}
 use Rattle.meaning.specs.Meaning.{select, union}
-use Rattle.meaning.specs.Turning.{counting, counts, inverseOf}
+use Rattle.meaning.specs.Turning.{counting, counts}
 use Rattle.meaning.proofs.Lists.{some-same}
 use Rattle.meaning.proofs.Windows.{some-and, some-keep}
 use Rattle.meaning.proofs.Marks.{listed, listed-by}
@@ -35,26 +35,26 @@ use Rattle.select.specs.Sets.{Narrowed, Thinned, LedBy, Led}
 
 module _ (t : List ℕ) (literals : List Float) where
   -- the rows that pass a test and the predicates behind it
-  sifted-narrowed : (d : ℕ) (e : Tree) (entry mid exit : List Bool) → Sifted t d entry mid → Narrowed t literals e mid exit → (y : ℕ) → y < rows t → getD exit y false ≡ (getD entry y false && fits t literals (testOf d) e y)
+  sifted-narrowed : (c d : ℕ) (e : Tree) (entry mid exit : List Bool) → Sifted t c d entry mid → Narrowed t literals e mid exit → (y : ℕ) → y < rows t → getD exit y false ≡ (getD entry y false && fits t literals (principal (axisOf c)) (testOf d) e y)
   unfolding Sifted Narrowed
-  sifted-narrowed d e entry mid exit s n y l = n y l ∙ rw (s y l) (and-assoc (getD entry y false) (passes t (testOf d) y) (ok t literals e y))
+  sifted-narrowed c d e entry mid exit s n y l = n y l ∙ rw (s y l) (and-assoc (getD entry y false) (passes t (principal (axisOf c)) (testOf d) y) (ok t literals e y))
 
-  -- one step back: what is near, the test, the predicates, the inverse axis
-  pub led-by : (c d : ℕ) (e : Tree) (near entry met mid next exit : List Bool) → Met t near entry met → Sifted t d met mid → Narrowed t literals e mid next → Hits t (axisOf (inverseOf c)) next exit → LedBy t literals near e c d entry exit
+  -- one step back: what is near, the test, the predicates, then to the nodes on whose axis it is
+  pub led-by : (c d : ℕ) (e : Tree) (near entry met mid next exit : List Bool) → Met t near entry met → Sifted t c d met mid → Narrowed t literals e mid next → Hits t (λ z w. on t (axisOf c) w z) next exit → LedBy t literals near e c d entry exit
   unfolding LedBy Met Hits hit
   led-by c d e near entry met mid next exit m s n h y l =
-      h y l ∙ before-by t literals c d e (λ z. getD entry z false && getD near z false) (λ z. getD next z false) (λ z k. sifted-narrowed d e met mid next s n z k ∙ rw (m z k)) y
+      h y l ∙ before-by t literals c d e (λ z. getD entry z false && getD near z false) (λ z. getD next z false) (λ z k. sifted-narrowed c d e met mid next s n z k ∙ rw (m z k)) y
 
   -- one step forward that does not count: the axis, the test, the predicates
-  pub strode : (p : List ℕ) (b c d : ℕ) (entry reached mid exit : List Bool) → counting (tree p b) ≡ false → Hits t (axisOf c) entry reached → Sifted t d reached mid → Narrowed t literals (tree p b) mid exit
+  pub strode : (p : List ℕ) (b c d : ℕ) (entry reached mid exit : List Bool) → counting (tree p b) ≡ false → Hits t (on t (axisOf c)) entry reached → Sifted t c d reached mid → Narrowed t literals (tree p b) mid exit
       → listed t exit ≡ union t (stepTo t literals p b c d) (listed t entry)
   unfolding union listed Hits hit
   strode p b c d entry reached mid exit free h s n = listed-by t exit (λ y. some (λ x. has (stepTo t literals p b c d x) y) (listed t entry)) marked
     where
       marked : (y : ℕ) → y < rows t → getD exit y false ≡ some (λ x. has (stepTo t literals p b c d x) y) (listed t entry)
       marked y l =
-          let good : Bool = fits t literals (testOf d) (tree p b) y in
-          sifted-narrowed d (tree p b) reached mid exit s n y l
+          let good : Bool = fits t literals (principal (axisOf c)) (testOf d) (tree p b) y in
+          sifted-narrowed c d (tree p b) reached mid exit s n y l
           ∙ rw (h y l)
           (sym (some-and (λ x. getD entry x false && on t (axisOf c) x y) good (upTo (rows t)))
           ∙ some-same (λ x. (getD entry x false && on t (axisOf c) x y) && good) (λ x. getD entry x false && has (stepTo t literals p b c d x) y) (upTo (rows t)) (λ x. rw (free-step t literals (axisOf c) (testOf d) (tree p b) x y free, placed-on t (axisOf c) x y l) (and-assoc (getD entry x false) (on t (axisOf c) x y) good))

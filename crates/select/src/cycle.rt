@@ -273,7 +273,7 @@ fn step_back(
     ensures { λ _. ⌜ LedBy (now (table .entry)) (now (literals .entry)) (now (near .entry)) (tree (now (path .entry)) link) axis test (now (marks .entry)) (now (marks .exit)) ⌝ }
 {
     meet(table, near, marks);
-    sift(table, test, marks);
+    sift(table, axis, test, marks);
     narrow(table, path, literals, link, marks);
     reach_back(table, axis, marks);
 }
@@ -432,7 +432,7 @@ fn stride(
     ensures { λ _. ⌜ listed (now (table .entry)) (now (marks .exit)) ≡ Meaning.union (now (table .entry)) (stepTo (now (table .entry)) (now (literals .entry)) (now (path .entry)) link axis test) (listed (now (table .entry)) (now (marks .entry))) ⌝ }
 {
     reach(table, axis, marks);
-    sift(table, test, marks);
+    sift(table, axis, test, marks);
     narrow(table, path, literals, link, marks);
 }
 

@@ -1,2 +1,3 @@
 mod Next
 mod Siblings
+mod Names

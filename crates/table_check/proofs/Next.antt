@@ -4,21 +4,21 @@
 use Prim.Native.Nat.{ℕ, _+_, _-_, _<_, _≤_}
 use mathlib.Core.Path.{_≡_, refl, sym}
 use mathlib.Core.Logic.{inl, inr}
-use mathlib.Core.Bool.{Bool, true, false, _&&_, not, and-true, and-false}
+use mathlib.Core.Bool.{Bool, true, false, _&&_, not, and-true, and-false, Bool·not-not}
 use mathlib.Core.List.{List}
 use lib.ListN.{length, getD, set, length-set}
 use lib.Seq.{getD-set-same, getD-set-other}
 use lib.Dec.{T, leb, ltb, eqb, leb→le, eqb→eq}
 use native.Mathlib.Omega.{arith}
 use native.Mathlib.Nat.{eq-or-lt-of-le}
-use borrow.Author.Tests.{ne-eqb, lt-ltb, le-ltb, le-leb, lt-leb}
+use borrow.Author.Tests.{eqb-true, ne-eqb, lt-ltb, le-ltb, le-leb, lt-leb}
 use Rattle.meaning.specs.Lists.{upTo, some, lowest}
-use Rattle.meaning.specs.Table.{rows, mostRows, lengthAllowed, kind, name, parentOf, size, end, isElement, isText, goodRoot, nearest, goodParent, textOfRoot, elementOfRoot, laterElement, previousSibling, textAfterText, goodRow, broken}
+use Rattle.meaning.specs.Table.{rows, mostRows, lengthAllowed, kind, name, parentOf, size, end, isElement, isText, isAttribute, goodRoot, nearest, goodParent, textOfRoot, elementOfRoot, laterElement, previousSibling, textAfterText, amongAttributes, strayAttribute, attributeAgain, goodRow, broken}
 use Rattle.meaning.proofs.Bools.{and-l, and-r, and-i, truly, is-true, same, eq→eqb, lt-or-ge, eq-or-ne}
 use Rattle.meaning.proofs.Lists.{none-below}
 use Rattle.meaning.proofs.Tables.{Child, good-parent, good-child, nearest-largest}
 use Rattle.meaning.proofs.Checks.{Passed, passed-start, passed-more, passed-found}
-use Rattle.table_check.specs.Next.{goodNumbers, wellPlaced, Stands, Next}
+use Rattle.table_check.specs.Next.{goodNumbers, wellPlaced, Stands, Next, Behind}
 
 module _ (t : List ℕ) where
   -- the root's first child must stand at row 1
@@ -71,22 +71,33 @@ module _ (t : List ℕ) where
     unfolding goodParent nearest
     misplaced h = rw (le-ltb (parentOf t i) i h)
 
-    -- a row that is not well placed is not good; of one that is, the rules for a child of the root decide, or the one for texts
+    -- a row that is not well placed is not good; of one that is, the rules for attributes decide, those for a child of the root, or the one
+    -- for texts
     pub ill-placed : wellPlaced t i ≡ false → goodRow t i ≡ false
     unfolding goodRow
     ill-placed h = rw h
 
-    pub good-of-root : wellPlaced t i ≡ true → parentOf t i ≡ 0 → goodRow t i ≡ (not (textOfRoot t i) && not (laterElement t i))
-    unfolding goodRow textOfRoot textAfterText
-    good-of-root h e = rw (h, e) (by (isText t i))
-      where
-        by : (b : Bool) → (not (b && true) && not (laterElement t i) && not (b && some (λ j. previousSibling t i j && isText t j) (upTo i))) ≡ (not (b && true) && not (laterElement t i))
-        by true = refl
-        by false = and-true (not (laterElement t i))
+    pub good-attribute : wellPlaced t i ≡ true → isAttribute t i ≡ true → goodRow t i ≡ (amongAttributes t i && not (attributeAgain t i))
+    unfolding goodRow textOfRoot laterElement elementOfRoot textAfterText strayAttribute
+    good-attribute h a = rw (h, eqb-true (kind t i) 5 a, Bool·not-not (amongAttributes t i))
 
-    pub good-inner : wellPlaced t i ≡ true → (parentOf t i ≡ 0 → ⊥) → goodRow t i ≡ not (textAfterText t i)
-    unfolding goodRow textOfRoot laterElement elementOfRoot
-    good-inner h d = rw (h, ne-eqb (parentOf t i) 0 d, and-false (isText t i), and-false (isElement t i))
+    module _ (plain : isAttribute t i ≡ false) where
+      pub good-of-root : wellPlaced t i ≡ true → parentOf t i ≡ 0 → goodRow t i ≡ (not (textOfRoot t i) && not (laterElement t i))
+      unfolding goodRow textOfRoot textAfterText strayAttribute attributeAgain
+      good-of-root h e = rw (h, e, plain) (by (isText t i))
+        where
+          by : (b : Bool) → (not (b && true) && not (laterElement t i) && not (b && some (λ j. previousSibling t i j && isText t j) (upTo i)) && true && true) ≡ (not (b && true) && not (laterElement t i))
+          by true = refl
+          by false = simp and-true
+
+      pub good-inner : wellPlaced t i ≡ true → (parentOf t i ≡ 0 → ⊥) → goodRow t i ≡ not (textAfterText t i)
+      unfolding goodRow textOfRoot laterElement elementOfRoot strayAttribute attributeAgain
+      good-inner h d = rw (h, ne-eqb (parentOf t i) 0 d, and-false (isText t i), and-false (isElement t i), plain) (simp and-true)
+
+    -- a good row is well placed, and a well placed row's parent is as the rules have it
+    pub good-placed : T (goodRow t i) → T (wellPlaced t i)
+    unfolding goodRow
+    good-placed g = search and-l
 
     pub placed-parent : wellPlaced t i ≡ true → goodParent t i ≡ true
     placed-parent h = is-true (goodParent t i) (and-r (goodNumbers (kind t i) (name t i) (size t i)) (goodParent t i) (truly h))
@@ -179,6 +190,11 @@ module _ (t : List ℕ) where
 
   pub sound-more : (i : ℕ) → 0 < i → Passed (broken t) i → goodRow t i ≡ true → Passed (broken t) (i + 1)
   sound-more i p s h = passed-more (broken t) i s (rw (row-broken i p, h))
+
+  -- a row behind those passed stands behind sound rows
+  pub passed-behind : (i : ℕ) → 0 < i → i < rows t → Passed (broken t) i → Behind t i
+  unfolding Passed
+  passed-behind i p l s = record { inner = p; row = l; sound = s }
 
   -- the root is the lowest broken row, or the first row behind sound ones that is not good
   pub lowest-root : 0 < rows t → goodRoot t ≡ false → 0 ≡ lowest (broken t) (rows t)

@@ -4,18 +4,19 @@
 use Prim.Native.Nat.{ℕ, _+_, _-_, _<_, _≤_}
 use mathlib.Core.Path.{_≡_, _∙_}
 use mathlib.Core.Logic.{inl, inr}
-use mathlib.Core.Bool.{true, false, _&&_, not}
+use mathlib.Core.Bool.{true, false, _&&_, not, and-true}
 use mathlib.Core.List.{List}
 use lib.Dec.{T, ltb, eqb, ltb→lt, eqb→eq, lt→ltb}
 use native.Mathlib.Omega.{arith}
 use native.Mathlib.Nat.{eq-or-lt-of-le}
-use borrow.Author.Tests.{lt-ltb, le-ltb}
+use native.Mathlib.Numerals.{add-one}
+use borrow.Author.Tests.{lt-ltb, le-ltb, eq-eqb}
 use Rattle.meaning.specs.Lists.{upTo, some}
-use Rattle.meaning.specs.Table.{kind, parentOf, rows, end, isElement, isText, hasElement, goodParent, elementOfRoot, laterElement, siblingBefore, previousSibling, textAfterText}
-use Rattle.meaning.proofs.Bools.{and-l, and-r, and-i, truly, untrue, same, is-true, not-e, eq→eqb, lt-or-ge}
+use Rattle.meaning.specs.Table.{kind, parentOf, rows, end, isElement, isText, isAttribute, hasElement, goodParent, elementOfRoot, laterElement, siblingBefore, previousSibling, textAfterText}
+use Rattle.meaning.proofs.Bools.{and-l, and-r, and-i, truly, untrue, same, is-true, is-false, not-e, lt-or-ge}
 use Rattle.meaning.proofs.Lists.{some-to, some-from, has-upTo-to, has-upTo-from, none-below, lowest-some, lowest-below, lowest-at}
 use Rattle.meaning.proofs.Tables.{Sound, row-holds, Child, good-child, parent-child}
-use Rattle.meaning.proofs.DataModel.{inner, holder, first-of-root}
+use Rattle.meaning.proofs.DataModel.{inner, holder, first-of-root, among-row, among}
 use Rattle.table_check.specs.Next.{firstElement}
 
 -- the table has an element exactly if the first stands below the row count
@@ -45,6 +46,10 @@ module _ (t : List ℕ) (i : ℕ) (sound : Sound t i) where
       first : ℕ
       first = firstElement t
 
+  -- a text is no attribute
+  text-plain : (j : ℕ) → T (isText t j) → isAttribute t j ≡ false
+  text-plain j x = rw (eqb→eq (kind t j) 2 x)
+
   -- a text ends where it stands
   text-alone : (j : ℕ) → 0 < j → j < i → T (isText t j) → end t j ≡ j
   text-alone j p l x = elim (lt-or-ge j (end t j)) [
@@ -63,12 +68,22 @@ module _ (t : List ℕ) (i : ℕ) (sound : Sound t i) where
         | inr m ↦ omega (arith, c .largest q m (omega (arith, d .reached)), d .largest (parentOf t j) (omega (arith, c .below)) r)
       ]
 
+  -- and is no attribute: those stand straight behind elements and attributes
+  behind-text-plain : (j : ℕ) → j + 1 < i → T (isText t j) → isAttribute t (j + 1) ≡ false
+  behind-text-plain j l x = is-false (isAttribute t (j + 1)) (λ a.
+      let text : kind t j ≡ 2 = eqb→eq (kind t j) 2 x in
+      elim (among-row t j (rw (add-one j) at (among t i sound (j + 1) l a))) [
+        | inl m ↦ omega (arith, eqb→eq (kind t j) 1 (m .0))
+        | inr m ↦ omega (arith, eqb→eq (kind t j) 5 (m .0))
+      ])
+
   -- a text that is the previous sibling of row i is the row before it
   text-is-before : Child t i → (j : ℕ) → j < i → T (previousSibling t i j) → T (isText t j) → j + 1 ≡ i
   unfolding previousSibling
   text-is-before c j l h x =
       let p : T (ltb 0 j) = search (and-l, and-r) in
       let e : T (eqb (parentOf t j) (parentOf t i)) = search (and-l, and-r) in
+      let plain : T (not (isAttribute t i)) = search (and-l, and-r) in
       let alone : T (not (some (λ k. ltb j k && siblingBefore t i k) (upTo i))) = search (and-l, and-r) in
       let shared : parentOf t j ≡ parentOf t i = eqb→eq (parentOf t j) (parentOf t i) e in
       elim (eq-or-lt-of-le {n = j + 1} {m = i} (omega arith)) [
@@ -76,7 +91,7 @@ module _ (t : List ℕ) (i : ℕ) (sound : Sound t i) where
         | inr m ↦
             let k : ℕ = j + 1 in
             let so : parentOf t k ≡ parentOf t i = behind-text j (ltb→lt 0 j p) m x (rw shared (omega (arith, c .reached))) ∙ shared in
-            let b : T (ltb j k && siblingBefore t i k) = rw (lt-ltb j k (omega arith), lt-ltb 0 k (omega arith), lt-ltb k i m) (eq→eqb (parentOf t k) (parentOf t i) so) in
+            let b : T (ltb j k && siblingBefore t i k) = rw (lt-ltb j k (omega arith), lt-ltb 0 k (omega arith), lt-ltb k i m, eq-eqb (parentOf t k) (parentOf t i) so, behind-text-plain j m x, and-true) plain in
             absurd (not-e (some (λ k. ltb j k && siblingBefore t i k) (upTo i)) alone (some-from (λ k. ltb j k && siblingBefore t i k) (upTo i) k b (has-upTo-from i k m)))
       ]
 
@@ -99,5 +114,5 @@ module _ (t : List ℕ) (i : ℕ) (sound : Sound t i) where
       let e : T (eqb (parentOf t j) (parentOf t i)) = search (and-l, and-r) in
       let q : 0 < j = inner t i sound j 1 (omega arith) (eqb→eq (kind t j) 2 x) in
       let alone : some (λ k. ltb j k && siblingBefore t i k) (upTo i) ≡ false = none-below (λ k. ltb j k && siblingBefore t i k) i (λ k l. rw (le-ltb j k (omega arith))) in
-      let b : T (previousSibling t i j && isText t j) = rw (lt-ltb 0 j q, lt-ltb j i (omega arith), is-true (eqb (parentOf t j) (parentOf t i)) e, alone) x in
+      let b : T (previousSibling t i j && isText t j) = rw (alone, lt-ltb 0 j q, lt-ltb j i (omega arith), is-true (eqb (parentOf t j) (parentOf t i)) e, text-plain i y, text-plain j x) x in
       and-i (isText t i) (some (λ j. previousSibling t i j && isText t j) (upTo i)) y (some-from (λ j. previousSibling t i j && isText t j) (upTo i) j b (has-upTo-from i j (omega arith))))

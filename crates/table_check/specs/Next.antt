@@ -5,17 +5,20 @@ use mathlib.Core.Path.{_≡_}
 use mathlib.Core.Bool.{Bool, false, _&&_}
 use mathlib.Core.List.{List}
 use lib.ListN.{length, getD}
-use lib.Dec.{leb}
+use lib.Dec.{leb, eqb}
 use Rattle.meaning.specs.Lists.{lowest}
-use Rattle.meaning.specs.Table.{kind, name, size, rows, mostRows, end, isElement, goodName, goodSize, goodParent, broken}
+use Rattle.meaning.specs.Table.{kind, name, size, rows, mostRows, end, goodName, goodSize, goodParent, broken}
 
--- the lowest row of kind 1, and the row count where there is none
+-- the lowest row of a kind, and the row count where there is none; that of kind 1
+abbrev pub firstOfKind : List ℕ → ℕ → ℕ
+firstOfKind t k = lowest (λ i. eqb (kind t i) k) (rows t)
+
 abbrev pub firstElement : List ℕ → ℕ
-firstElement t = lowest (isElement t) (rows t)
+firstElement t = firstOfKind t 1
 
--- what the rules ask of a row's own numbers: kinds 1 to 4, its name, its size
+-- what the rules ask of a row's own numbers: kinds 1 to 5, its name, its size
 abbrev pub goodNumbers : ℕ → ℕ → ℕ → Bool
-goodNumbers kind name size = leb 1 kind && leb kind 4 && goodName kind name && goodSize kind size
+goodNumbers kind name size = leb 1 kind && leb kind 5 && goodName kind name && goodSize kind size
 
 -- of row i: those, and its parent
 abbrev pub wellPlaced : List ℕ → ℕ → Bool

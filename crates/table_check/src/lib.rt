@@ -1,5 +1,5 @@
-// The table checker (document 01, "The node table" and "Numbers given back"; document 02, W-206): one look for the first element and one
-// pass over the rows, sums in 64 bits.
+// The table checker (document 01, "The node table" and "Numbers given back"; document 02, W-206 and W-209): one look for the first element,
+// one for the first attribute and one pass over the rows, sums in 64 bits.
 use basics::at_most;
 use basics::below;
 use basics::both;
@@ -9,6 +9,7 @@ use basics::same;
 use meaning::Answer;
 use meaning::MOST_ROWS;
 use table::end_at;
+use table::is_attribute;
 use table::kind_at;
 use table::name_at;
 use table::parent_at;
@@ -18,9 +19,13 @@ ghost use mathlib.Core.Path.{_≡_};
 ghost use mathlib.Core.Bool.{true};
 ghost use Prim.Native.Nat.{_+_, _<_, _≤_};
 ghost use Rattle.meaning.specs.Lists.{lowest};
-ghost use Rattle.meaning.specs.Table.{rows, mostRows, lengthAllowed, goodRoot, goodName, goodParent, textOfRoot, laterElement, textAfterText, goodRow, broken};
+ghost use Rattle.meaning.specs.Table.{rows, mostRows, lengthAllowed, goodRoot, isAttribute, goodName, goodParent, textOfRoot, laterElement, textAfterText, amongAttributes, goodRow, broken};
 ghost use Rattle.meaning.specs.Promises.{ChecksTable};
-ghost use Rattle.table_check.specs.Next.{firstElement, goodNumbers, wellPlaced, Behind, Next, Looked};
+ghost use Rattle.table_check.specs.Next.{firstOfKind, firstElement, goodNumbers, wellPlaced, Behind, Next, Looked};
+ghost use Rattle.table_check.specs.Names.{Seen};
+
+// The largest name.
+const MOST_NAME: usize = 65535;
 
 // 1 to 4,096 rows, and a multiple of 4.
 fn length_allowed(table: &[u32]) -> bool
@@ -31,14 +36,14 @@ fn length_allowed(table: &[u32]) -> bool
     both(some_rows, at_most(n, MOST_ROWS))
 }
 
-// The lowest row of kind 1, or the row count where there is none.
-fn first_element(table: &[u32]) -> usize
-    ensures { λ r. ⌜ r ≡ firstElement (now (table .entry)) ⌝ }
+// The lowest row of a kind, or the row count where there is none.
+fn first_of_kind(table: &[u32], kind: usize) -> usize
+    ensures { λ r. ⌜ r ≡ firstOfKind (now (table .entry)) kind ⌝ }
 {
     let n = row_count(table);
     let mut i = 0;
     while i < n {
-        if kind_at(table, i) == 1 {
+        if kind_at(table, i) == kind {
             return i;
         }
         i += 1;
@@ -58,22 +63,23 @@ fn good_root(table: &[u32], first: usize) -> bool
     both(sized, below(first, n))
 }
 
-// A name is 1 to 65,535 for kinds 1 and 4, else 0.
+// A name is 1 to 65,535 for kinds 1, 4 and 5, else 0.
 fn good_name(kind: usize, name: usize) -> bool
     ensures { λ r. ⌜ r ≡ goodName kind name ⌝ }
 {
-    if either(same(kind, 1), same(kind, 4)) {
-        both(at_most(1, name), at_most(name, 65535))
+    let named = either(either(same(kind, 1), same(kind, 4)), same(kind, 5));
+    if named {
+        both(at_most(1, name), at_most(name, MOST_NAME))
     } else {
         same(name, 0)
     }
 }
 
-// A row's own numbers: a kind from 1 to 4, a name and a size as it has them; size is 0 for kinds 2, 3, 4.
+// A row's own numbers: a kind from 1 to 5, a name and a size as it has them; size is 0 for kinds 2 to 5.
 fn good_numbers(kind: usize, name: usize, size: usize) -> bool
     ensures { λ r. ⌜ r ≡ goodNumbers kind name size ⌝ }
 {
-    let known = both(at_most(1, kind), at_most(kind, 4));
+    let known = both(at_most(1, kind), at_most(kind, 5));
     let named = both(known, good_name(kind, name));
     both(named, either(same(kind, 1), same(size, 0)))
 }
@@ -125,14 +131,42 @@ fn text_after_text(table: &[u32], i: usize) -> bool
     )
 }
 
+// Does row i stand straight after its element, or after another attribute of it?
+fn among_attributes(table: &[u32], i: usize) -> bool
+    requires { ⌜ (0 < i) × (i < rows (now table)) ⌝ }
+    ensures { λ r. ⌜ r ≡ amongAttributes (now (table .entry)) i ⌝ }
+{
+    let kind = kind_at(table, i - 1);
+    let parent = parent_at(table, i);
+    let first = both(same(kind, 1), same(parent, i - 1));
+    let next = both(same(kind, 5), same(parent, parent_at(table, i - 1)));
+    either(first, next)
+}
+
+// Is row i, an attribute, as the rules have it? seen has for each name the last element with an attribute of that name: no later attribute
+// has an earlier element, so the row's own element stands there exactly if it has the name already.
+fn good_attribute(table: &[u32], i: usize, seen: &[u16]) -> bool
+    requires { ⌜ Behind (now table) i × (wellPlaced (now table) i ≡ true) × (isAttribute (now table) i ≡ true) × Seen (now table) i (now seen) ⌝ }
+    ensures { λ r. ⌜ r ≡ goodRow (now (table .entry)) i ⌝ }
+{
+    if !among_attributes(table, i) {
+        return false;
+    }
+    let last = seen[name_at(table, i)] as usize;
+    !same(last, parent_at(table, i))
+}
+
 // Is row i, which is not the root, as the rules have it? Few rows are children of the root, and few are texts: the others are done after
-// two tests.
-fn good_row(table: &[u32], i: usize, first: usize, next: &[u16]) -> bool
-    requires { ⌜ Looked (now table) i (now next) × (first ≡ firstElement (now table)) ⌝ }
+// three tests.
+fn good_row(table: &[u32], i: usize, first: usize, next: &[u16], seen: &[u16]) -> bool
+    requires { ⌜ Looked (now table) i (now next) × Seen (now table) i (now seen) × (first ≡ firstElement (now table)) ⌝ }
     ensures { λ r. ⌜ r ≡ goodRow (now (table .entry)) i ⌝ }
 {
     if !well_placed(table, i, next) {
         return false;
+    }
+    if is_attribute(table, i) {
+        return good_attribute(table, i, seen);
     }
     if parent_at(table, i) == 0 {
         return both(!text_of_root(table, i), !later_element(table, i, first));
@@ -150,26 +184,50 @@ fn pass_row(table: &[u32], i: usize, next: &mut [u16])
     next[parent] = (end_at(table, i) + 1) as u16;
 }
 
-// The lowest broken row, or the row count where there is none. The root's first child must stand at row 1.
-fn lowest_broken_row(table: &[u32]) -> usize
-    requires { ⌜ (0 < rows (now table)) × (rows (now table) ≤ mostRows) ⌝ }
+// Row i is sound: if it is an attribute, its element is the last one with its name.
+fn pass_name(table: &[u32], i: usize, seen: &mut [u16])
+    requires { ⌜ Behind (now table) i × (rows (now table) ≤ mostRows) × (goodRow (now table) i ≡ true) × Seen (now table) i (now seen) ⌝ }
+    ensures { λ _. ⌜ Seen (now (table .entry)) (i + 1) (now (seen .exit)) ⌝ }
+{
+    if is_attribute(table, i) {
+        seen[name_at(table, i)] = parent_at(table, i) as u16;
+    }
+}
+
+// The lowest broken row behind a sound root, or the row count where there is none. The root's first child must stand at row 1.
+fn lowest_behind_root(table: &[u32], first: usize, seen: &mut [u16]) -> usize
+    requires { ⌜ (0 < rows (now table)) × (rows (now table) ≤ mostRows) × (goodRoot (now table) ≡ true) × (first ≡ firstElement (now table)) × Seen (now table) 1 (now seen) ⌝ }
     ensures { λ r. ⌜ r ≡ lowest (broken (now (table .entry))) (rows (now (table .entry))) ⌝ }
 {
-    let first = first_element(table);
-    if !good_root(table, first) {
-        return 0;
-    }
     let n = row_count(table);
     let mut next = [1u16; MOST_ROWS];
     let mut i = 1;
     while i < n {
-        if !good_row(table, i, first, &next) {
+        if !good_row(table, i, first, &next, seen) {
             return i;
         }
         pass_row(table, i, &mut next);
+        pass_name(table, i, seen);
         i += 1;
     }
     n
+}
+
+// The lowest broken row, or the row count where there is none. Names are looked up only in a table that has attributes.
+fn lowest_broken_row(table: &[u32]) -> usize
+    requires { ⌜ (0 < rows (now table)) × (rows (now table) ≤ mostRows) ⌝ }
+    ensures { λ r. ⌜ r ≡ lowest (broken (now (table .entry))) (rows (now (table .entry))) ⌝ }
+{
+    let first = first_of_kind(table, 1);
+    if !good_root(table, first) {
+        return 0;
+    }
+    if first_of_kind(table, 5) < row_count(table) {
+        let mut seen = [0u16; MOST_NAME + 1];
+        return lowest_behind_root(table, first, &mut seen);
+    }
+    let mut none = [0u16; 1];
+    lowest_behind_root(table, first, &mut none)
 }
 
 // 1 for a length that is not allowed, 2 with the lowest broken row, 0 with the row count.

@@ -14,8 +14,8 @@ use Rattle.meaning.specs.Rows.{opOf, opAt, field, code, isLiteral, fieldsOf, is
 use Rattle.meaning.specs.Rows as R
 use Rattle.meaning.specs.Tree.{none, node, tree, indexOrAxis, testAt}
 use Rattle.meaning.specs.Meaning.{isAbsolute}
-use Rattle.meaning.specs.Turning.{firstCounting, turned, weight, link, row, written}
-use Rattle.meaning.specs.Answers.{answer, pathTree, pathAnswer, output, countingStep, absolutePath, turning, turnedRows, turnedOutput}
+use Rattle.meaning.specs.Turning.{firstStep, isCounting, isOfAttributes, turned, weight, link, row, written}
+use Rattle.meaning.specs.Answers.{answer, pathTree, pathAnswer, output, countingStep, attributeStep, absolutePath, turning, turnedRows, turnedOutput}
 use Rattle.meaning.specs.Promises.{TurnsPath}
 use Rattle.meaning.specs.declared.Answer.{Answer}
 use Rattle.meaning.proofs.Bools.{or-none-l, or-none-r}
@@ -113,55 +113,66 @@ module _ (p : List ℕ) (literals : List Float) (checked : Answer) (is-checked :
     pub rows-there : (0 < rowsOf p) × (rowsOf p ≤ 256)
     rows-there = (some-path-row p (length literals) accepted, most-rows p (accepted .allowed))
 
-    module _ (n last first op room : ℕ) (is-n : n ≡ rowsOf p) (is-last : last ≡ firstLink p (n - 1)) (is-first : first ≡ firstCounting (tree p last)) (is-op : op ≡ field p (n - 1) 0) where
+    module _ (n last counting attributes op room : ℕ) (is-n : n ≡ rowsOf p) (is-last : last ≡ firstLink p (n - 1)) (is-counting : counting ≡ firstStep isCounting (tree p last))
+        (of-attributes : attributes ≡ firstStep isOfAttributes (tree p last)) (is-op : op ≡ field p (n - 1) 0) where
       steps-link : last ≡ firstLink p (rowsOf p - 1)
       steps-link = rw (← is-n) is-last
 
       top-op : op ≡ field p (rowsOf p - 1) 0
       top-op = rw (← is-n) is-op
 
-      counting-is : countingStep (pathTree p) ≡ first
+      counting-is : countingStep (pathTree p) ≡ counting
       unfolding countingStep
-      counting-is = rw (tree-row p (rowsOf p) (λ z. omega (arith, rows-there .0)), ← steps-link) (sym is-first)
+      counting-is = rw (tree-row p (rowsOf p) (λ z. omega (arith, rows-there .0)), ← steps-link) (sym is-counting)
+
+      attributes-is : attributeStep (pathTree p) ≡ attributes
+      unfolding attributeStep
+      attributes-is = rw (tree-row p (rowsOf p) (λ z. omega (arith, rows-there .0)), ← steps-link) (sym of-attributes)
 
       absolute-is : absolutePath (pathTree p) ≡ eqb op 23
       unfolding absolutePath isAbsolute
       absolute-is = rw (tree-row p (rowsOf p) (λ z. omega (arith, rows-there .0)), ← top-op) (op-is 23 op (omega arith) (omega arith))
 
       -- 9
-      pub step-counts : 0 < first → answer 9 first ≡ turning p literals room
+      pub step-counts : 0 < counting → answer 9 counting ≡ turning p literals room
       unfolding turning
-      step-counts h = rw (path-passes p literals zero-answer, counting-is, lt-ltb 0 first h)
+      step-counts h = rw (path-passes p literals zero-answer, counting-is, lt-ltb 0 counting h)
 
-      module _ (uncounted : first ≤ 0) where
-        -- 10
-        pub is-absolute : op ≡ 23 → answer 10 0 ≡ turning p literals room
+      module _ (uncounted : counting ≤ 0) where
+        -- 13
+        pub step-of-attributes : 0 < attributes → answer 13 attributes ≡ turning p literals room
         unfolding turning
-        is-absolute e = rw (path-passes p literals zero-answer, counting-is, le-ltb 0 first uncounted, absolute-is, eq-eqb op 23 e)
+        step-of-attributes h = rw (path-passes p literals zero-answer, counting-is, le-ltb 0 counting uncounted, attributes-is, lt-ltb 0 attributes h)
 
-        module _ (not-absolute : op ≡ 23 → ⊥) (many short full : Bool) (is-many : many ≡ ltb mostPathRows (n + 1)) (is-short : short ≡ ltb room (5 * (n + 1))) (is-full : full ≡ (many || short)) where
-          -- 11, and 0
-          pub no-room : full ≡ true → answer 11 (n + 1) ≡ turning p literals room
+        module _ (usual : attributes ≤ 0) where
+          -- 10
+          pub is-absolute : op ≡ 23 → answer 10 0 ≡ turning p literals room
           unfolding turning
-          no-room k =
-              rw (path-passes p literals zero-answer, counting-is, le-ltb 0 first uncounted, absolute-is, ne-eqb op 23 not-absolute, ← is-n, ← is-many, ← is-short, ← is-full, k)
+          is-absolute e = rw (path-passes p literals zero-answer, counting-is, le-ltb 0 counting uncounted, attributes-is, le-ltb 0 attributes usual, absolute-is, eq-eqb op 23 e)
 
-          pub is-turned : full ≡ false → answer 0 (n + 1) ≡ turning p literals room
-          unfolding turning
-          is-turned k =
-              rw (path-passes p literals zero-answer, counting-is, le-ltb 0 first uncounted, absolute-is, ne-eqb op 23 not-absolute, ← is-n, ← is-many, ← is-short, ← is-full, k)
+          module _ (not-absolute : op ≡ 23 → ⊥) (many short full : Bool) (is-many : many ≡ ltb mostPathRows (n + 1)) (is-short : short ≡ ltb room (5 * (n + 1))) (is-full : full ≡ (many || short)) where
+            -- 11, and 0
+            pub no-room : full ≡ true → answer 11 (n + 1) ≡ turning p literals room
+            unfolding turning
+            no-room k =
+                rw (path-passes p literals zero-answer, counting-is, le-ltb 0 counting uncounted, attributes-is, le-ltb 0 attributes usual, absolute-is, ne-eqb op 23 not-absolute, ← is-n, ← is-many, ← is-short, ← is-full, k)
 
-          -- what the writer asks for
-          pub is-turnable : (out : List ℕ) → room ≡ length out → full ≡ false → Turnable p out
-          unfolding isAbsolute
-          is-turnable out e k =
-              let g : (many || short) ≡ false = sym is-full ∙ k in
-              let x : ltb mostPathRows (n + 1) ≡ false = sym is-many ∙ or-none-l many short g in
-              let y : ltb room (5 * (n + 1)) ≡ false = sym is-short ∙ or-none-r many short g in
-              let o : isAbsolute (opAt p (rowsOf p - 1)) ≡ false = ap (λ (k : ℕ). isAbsolute (opOf k)) (sym top-op) ∙ op-is 23 op (omega arith) (omega arith) ∙ ne-eqb op 23 not-absolute in
-              record {
-                there = rows-there .0;
-                relative = relative-is (opAt p (rowsOf p - 1)) (top-is-path p (length literals) accepted) o;
-                whole = all-rows p (length literals) accepted;
-                room = record { few = omega (arith, ltb-false mostPathRows (n + 1) x); holds = omega (arith, ltb-false room (5 * (n + 1)) y) };
-              }
+            pub is-turned : full ≡ false → answer 0 (n + 1) ≡ turning p literals room
+            unfolding turning
+            is-turned k =
+                rw (path-passes p literals zero-answer, counting-is, le-ltb 0 counting uncounted, attributes-is, le-ltb 0 attributes usual, absolute-is, ne-eqb op 23 not-absolute, ← is-n, ← is-many, ← is-short, ← is-full, k)
+
+            -- what the writer asks for
+            pub is-turnable : (out : List ℕ) → room ≡ length out → full ≡ false → Turnable p out
+            unfolding isAbsolute
+            is-turnable out e k =
+                let g : (many || short) ≡ false = sym is-full ∙ k in
+                let x : ltb mostPathRows (n + 1) ≡ false = sym is-many ∙ or-none-l many short g in
+                let y : ltb room (5 * (n + 1)) ≡ false = sym is-short ∙ or-none-r many short g in
+                let o : isAbsolute (opAt p (rowsOf p - 1)) ≡ false = ap (λ (k : ℕ). isAbsolute (opOf k)) (sym top-op) ∙ op-is 23 op (omega arith) (omega arith) ∙ ne-eqb op 23 not-absolute in
+                record {
+                  there = rows-there .0;
+                  relative = relative-is (opAt p (rowsOf p - 1)) (top-is-path p (length literals) accepted) o;
+                  whole = all-rows p (length literals) accepted;
+                  room = record { few = omega (arith, ltb-false mostPathRows (n + 1) x); holds = omega (arith, ltb-false room (5 * (n + 1)) y) };
+                }

@@ -3,8 +3,10 @@
 use basics::below;
 use basics::either;
 use basics::given;
+use basics::same;
 use counting::counting;
 use meaning::Answer;
+use meaning::LAST_AXIS;
 use path::field_at;
 use path::first_link;
 use path::index_or_axis;
@@ -22,7 +24,7 @@ ghost use lib.ListN.{length, drop, set};
 ghost use lib.Seq.{sets};
 ghost use Rattle.meaning.specs.Rows.{opOf, opAt, code};
 ghost use Rattle.meaning.specs.Tree.{tree, indexOrAxis, testAt};
-ghost use Rattle.meaning.specs.Turning.{steps, firstCounting, predicates, test, weight, written};
+ghost use Rattle.meaning.specs.Turning.{steps, firstStep, isCounting, isOfAttributes, predicates, test, weight, written};
 ghost use Rattle.meaning.specs.Turning as turn_specs;
 ghost use Rattle.meaning.specs.Answers.{turnedRows};
 ghost use Rattle.meaning.specs.Promises.{TurnsPath};
@@ -39,13 +41,14 @@ const ABSOLUTE: usize = 23;
 
 const LITERAL: usize = 1;
 
-// How many steps a chain has, and the number from 1 of the first that counts; 0 where none does.
+// How many steps a chain has, and the number from 1 of the first that counts and of the first on the attribute axis; 0 where none is.
 struct Steps {
     count: usize,
-    first: usize,
+    counting: usize,
+    attribute: usize,
 }
 
-// The first step that counts, with a last step of number n behind the others.
+// The first step that fits, with a last step of number n behind the others.
 fn first_of(first: usize, own: bool, n: usize) -> usize
     requires { ⌜ first ≤ n ⌝ }
     ensures { λ r. ⌜ (r ≡ cond (eqb first 0) (cond own n 0) first) × (r ≤ n) ⌝ }
@@ -59,18 +62,24 @@ fn first_of(first: usize, own: bool, n: usize) -> usize
 
 fn steps_of(path: &[u32], last: usize) -> Steps
     requires { ⌜ last ≤ 256 ⌝ }
-    ensures { λ r. ⌜ ((r .count ≡ steps (tree (now (path .entry)) last)) × (r .first ≡ firstCounting (tree (now (path .entry)) last))) × (r .count ≤ last) × (r .first ≤ r .count) ⌝ }
+    ensures { λ r. ⌜ ((r .count ≡ steps (tree (now (path .entry)) last)) × (r .counting ≡ firstStep isCounting (tree (now (path .entry)) last)) × (r .attribute ≡ firstStep isOfAttributes (tree (now (path .entry)) last))) × (r .count ≤ last) × (r .counting ≤ r .count) × (r .attribute ≤ r .count) ⌝ }
 {
     if last == 0 {
-        return Steps { count: 0, first: 0 };
+        return Steps {
+            count: 0,
+            counting: 0,
+            attribute: 0,
+        };
     }
     let row = last - 1;
     let before = steps_of(path, first_link(path, row));
-    let own = counting(path, second_link(path, row));
     let n = before.count + 1;
+    let counts = counting(path, second_link(path, row));
+    let on_attributes = same(index_or_axis(path, row), LAST_AXIS);
     Steps {
         count: n,
-        first: first_of(before.first, own, n),
+        counting: first_of(before.counting, counts, n),
+        attribute: first_of(before.attribute, on_attributes, n),
     }
 }
 
@@ -208,7 +217,7 @@ fn write_turned(path: &[u32], out: &mut [u32])
     put_row(out, at, RELATIVE, at, 0, 0, 0);
 }
 
-// Turns an accepted relative path none of whose steps counts. A refusal leaves the output as it is.
+// Turns an accepted relative path none of whose steps counts or is on the attribute axis. A refusal leaves the output as it is.
 pub fn turn(path: &[u32], literals: &[f64], out: &mut [u32]) -> Answer
     ensures { λ r. ⌜ TurnsPath (now (path .entry)) (now (literals .entry)) (now (out .entry)) r (now (out .exit)) ⌝ }
 {
@@ -217,10 +226,13 @@ pub fn turn(path: &[u32], literals: &[f64], out: &mut [u32]) -> Answer
         return checked;
     }
     let rows = row_count(path);
-    let first = steps_of(path, first_link(path, rows - 1)).first;
+    let steps = steps_of(path, first_link(path, rows - 1));
     let op = field_at(path, rows - 1, 0);
-    if 0 < first {
-        return given(9, first);
+    if 0 < steps.counting {
+        return given(9, steps.counting);
+    }
+    if 0 < steps.attribute {
+        return given(13, steps.attribute);
     }
     if op == ABSOLUTE {
         return given(10, 0);

@@ -15,7 +15,7 @@ both-requires : tie.Need-both-requires
 both-requires c κs = search needs
 
 returns : tie.Need-returns
-unfolding A.on
+unfolding A.after
 returns c = rw (c .both .ensures, c .before .is-inside .ensures, c .before .before .below .ensures)
 
 pub is-after-spec : {M : Type 1} → statement M

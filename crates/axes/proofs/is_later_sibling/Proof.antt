@@ -26,9 +26,21 @@ same-requires c κs = search needs
 both-requires-2 : tie.Need-both-requires-2
 both-requires-2 c κs = search needs
 
+any-attribute-requires : tie.Need-any-attribute-requires
+any-attribute-requires c κs = search needs
+
+both-requires-3 : tie.Need-both-requires-3
+both-requires-3 c κs = search needs
+
+any-attribute-requires-2 : tie.Need-any-attribute-requires-2
+any-attribute-requires-2 c κs = search needs
+
+both-requires-4 : tie.Need-both-requires-4
+both-requires-4 c κs = search needs
+
 returns : tie.Need-returns
 unfolding A.on
-returns c = rw (c .both2 .ensures, c .before .same .ensures, c .before .before .any-parent2 .ensures, c .before .before .before .any-parent .ensures, c .before .before .before .before .both .ensures, c .before .before .before .before .before .below2 .ensures, c .before .before .before .before .before .before .below .ensures)
+returns c = rw (c .both4 .ensures, c .before .any-attribute2 .ensures, c .before .before .both3 .ensures, c .before .before .before .any-attribute .ensures, c .before .before .before .before .both2 .ensures, c .before .before .before .before .before .same .ensures, c .before .before .before .before .before .before .any-parent2 .ensures, c .before .before .before .before .before .before .before .any-parent .ensures, c .before .before .before .before .before .before .before .before .both .ensures, c .before .before .before .before .before .before .before .before .before .below2 .ensures, c .before .before .before .before .before .before .before .before .before .before .below .ensures)
 
 pub is-later-sibling-spec : {M : Type 1} → statement M
 is-later-sibling-spec =
@@ -41,4 +53,8 @@ is-later-sibling-spec =
     any-parent-requires-2
     same-requires
     both-requires-2
+    any-attribute-requires
+    both-requires-3
+    any-attribute-requires-2
+    both-requires-4
     returns)

@@ -9,18 +9,18 @@ use lib.ListN.{length, length-set}
 use mathlib.Core.Bool.{_&&_}
 use mathlib.Core.Logic.{⊎-elim}
 use Rattle.meaning.specs.Table.{rows}
-use Rattle.meaning.specs.Axis.{on, passes, axisOf, testOf, ordered, axisNodes, candidates}
+use Rattle.meaning.specs.Axis.{on, principal, passes, axisOf, testOf, ordered, axisNodes, candidates}
 use Rattle.meaning.proofs.Lists.{length-ordered, keep-keep}
 use Rattle.meaning.proofs.Filters.{Chosen, chosen-start, chosen-skip, chosen-more, chosen-done}
 use Rattle.candidates.proofs.list_by_scan.Statement.{statement}
 use Rattle.candidates.proofs.list_by_scan.Tie as tie
 
 abbrev Inv-loop : tie.InvT-loop
-Inv-loop table axis test x list₀ n reverse m₀ i₀ list m i =
-    (i ≤ n) × (m ≤ i) × (n ≡ rows table) × (length list ≡ length list₀) × Chosen (λ y. on table (axisOf axis) x y && passes table (testOf test) y) (ordered reverse n) list m i
+Inv-loop table axis test x list₀ n reverse kind m₀ i₀ list m i =
+    (i ≤ n) × (m ≤ i) × (n ≡ rows table) × (length list ≡ length list₀) × Chosen (λ y. on table (axisOf axis) x y && passes table (principal (axisOf axis)) (testOf test) y) (ordered reverse n) list m i
 
 abbrev μ-loop : tie.MeasureT-loop
-μ-loop table axis test x list₀ n reverse m₀ i₀ list m i = n - i
+μ-loop table axis test x list₀ n reverse kind m₀ i₀ list m i = n - i
 
 row-count-requires : tie.Need-row-count-requires Inv-loop μ-loop
 row-count-requires c κs = search needs
@@ -28,8 +28,11 @@ row-count-requires c κs = search needs
 is-reverse-requires : tie.Need-is-reverse-requires Inv-loop μ-loop
 is-reverse-requires c κs = search needs
 
+principal-requires : tie.Need-principal-requires Inv-loop μ-loop
+principal-requires c κs = search needs
+
 loop-holds : tie.Need-loop-holds Inv-loop μ-loop
-loop-holds c = (omega arith, omega arith, c .before .row-count .ensures, refl, chosen-start _ _ _)
+loop-holds c = (omega arith, omega arith, c .before .before .row-count .ensures, refl, chosen-start _ _ _)
 
 nth-requires : tie.Need-nth-requires Inv-loop μ-loop
 nth-requires c κs = search needs
@@ -64,11 +67,11 @@ loop-less c = search needs
 loop-again : tie.Need-loop-again Inv-loop μ-loop
 loop-again c =
     let lo = c .before .before .before .before .before .before in
-    let n = lo .before .before .row-count .result in
-    let r = lo .before .is-reverse .result in
+    let n = lo .before .before .before .row-count .result in
+    let r = lo .before .before .is-reverse .result in
     let long : length (ordered r n) ≡ n = length-ordered r n in
     let at-y = c .before .before .before .before .nth .ensures .0 in
-    let decided = rw (c .before .before .before .holds .ensures, c .before .before .passes-test .ensures, at-y) at (c .before .both .ensures) in
+    let decided = rw (c .before .before .before .holds .ensures, c .before .before .passes-test .ensures, lo .before .principal .ensures, at-y) at (c .before .both .ensures) in
     ⊎-elim
     (λ w. (
       omega arith,
@@ -93,10 +96,10 @@ returns : tie.Need-returns Inv-loop μ-loop
 unfolding candidates axisNodes
 returns c =
     let lo = c .before in
-    let n = lo .before .before .row-count .result in
-    let r = lo .before .is-reverse .result in
+    let n = lo .before .before .before .row-count .result in
+    let r = lo .before .before .is-reverse .result in
     let long : length (ordered r n) ≡ n = length-ordered r n in
-    (rw (← lo .before .is-reverse .ensures, ← lo .before .before .row-count .ensures) (chosen-done _ _ _ _ _ (lo .loop .inv .4) (omega arith) ∙ sym (keep-keep _ _ (ordered r n))), omega arith)
+    (rw (← lo .before .before .is-reverse .ensures, ← lo .before .before .before .row-count .ensures) (chosen-done _ _ _ _ _ (lo .loop .inv .4) (omega arith) ∙ sym (keep-keep _ _ (ordered r n))), omega arith)
 
 pub list-by-scan-spec : {M : Type 1} → statement M
 list-by-scan-spec =
@@ -106,6 +109,7 @@ list-by-scan-spec =
     μ-loop
     row-count-requires
     is-reverse-requires
+    principal-requires
     loop-holds
     nth-requires
     holds-requires

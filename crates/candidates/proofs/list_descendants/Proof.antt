@@ -1,7 +1,9 @@
 -- `candidates::list_descendants` meets its contract: the descendants are the rows of the range.
 -- Assumes nothing.
+use mathlib.Core.Path.{sym, _∙_}
 use borrow.Author.Needs.{needs}
-use Rattle.meaning.specs.Axis.{candidates}
+use Rattle.meaning.specs.Axis.{principal, candidates}
+use Rattle.meaning.proofs.Lists.{keep-keep}
 use Rattle.meaning.proofs.Ranges.{descendants-range}
 use Rattle.candidates.proofs.list_descendants.Statement.{statement}
 use Rattle.candidates.proofs.list_descendants.Tie as tie
@@ -19,11 +21,11 @@ same-length : tie.Need-same-length
 same-length c = search needs
 
 returns : tie.Need-returns
-unfolding candidates
+unfolding candidates principal
 returns c =
     let done = c .before .before .list-range .ensures in
     let past = c .before .before .before .before .past-subtree .ensures in
-    (rw (descendants-range _ _ _ past) (done .0), done .1)
+    (done .0 ∙ sym (rw (descendants-range _ _ _ past) (keep-keep _ _ _)), done .1)
 
 pub list-descendants-spec : {M : Type 1} → statement M
 list-descendants-spec =

@@ -3,28 +3,41 @@
 -- Assumes nothing.
 use Prim.Native.Nat.{_-_, _≤_}
 use mathlib.Core.Path.{_≡_, refl, ap, _∙_}
+use mathlib.Core.Bool.{_&&_}
 use mathlib.Core.Logic.{⊎-elim}
 use native.Mathlib.Omega.{arith}
 use borrow.Author.Needs.{needs}
 use lib.ListN.{length, length-set}
 use Rattle.meaning.specs.Table.{rows}
 use Rattle.meaning.specs.Axis.{passes, testOf}
-use Rattle.meaning.proofs.Ranges.{Ranged, ranged-start, ranged-skip, ranged-more, ranged-done}
+use Rattle.meaning.proofs.Ranges.{ownOrPlain, Ranged, ranged-start, ranged-skip, ranged-more, ranged-done}
 use Rattle.candidates.proofs.list_range.Statement.{statement}
 use Rattle.candidates.proofs.list_range.Tie as tie
 
 abbrev Inv-loop : tie.InvT-loop
-Inv-loop table test from to list₀ m₀ y₀ list m y =
-    (from ≤ y) × (y - from ≤ to - from) × (m ≤ y - from) × (length list ≡ length list₀) × Ranged (passes table (testOf test)) (rows table) from to list m y
+Inv-loop table x test from to list₀ m₀ y₀ list m y =
+    (from ≤ y) × (y - from ≤ to - from) × (m ≤ y - from) × (length list ≡ length list₀) × Ranged (λ y. ownOrPlain table x y && passes table 1 (testOf test) y) (rows table) from to list m y
 
 abbrev μ-loop : tie.MeasureT-loop
-μ-loop table test from to list₀ m₀ y₀ list m y = to - y
+μ-loop table x test from to list₀ m₀ y₀ list m y = to - y
 
 loop-holds : tie.Need-loop-holds Inv-loop μ-loop
 loop-holds c = (omega arith, omega arith, omega arith, refl, ranged-start _ _ _ _ _)
 
+same-requires : tie.Need-same-requires Inv-loop μ-loop
+same-requires c κs = search needs
+
+is-attribute-requires : tie.Need-is-attribute-requires Inv-loop μ-loop
+is-attribute-requires c κs = search needs
+
+either-requires : tie.Need-either-requires Inv-loop μ-loop
+either-requires c κs = search needs
+
 passes-test-requires : tie.Need-passes-test-requires Inv-loop μ-loop
 passes-test-requires c κs = search needs
+
+both-requires : tie.Need-both-requires Inv-loop μ-loop
+both-requires c κs = search needs
 
 cast-list : tie.Need-cast-list Inv-loop μ-loop
 cast-list c = search needs
@@ -46,9 +59,9 @@ loop-less c = search needs
 
 loop-again : tie.Need-loop-again Inv-loop μ-loop
 loop-again c =
-    let lo = c .before .before .before in
+    let lo = c .before .before .before .before .before .before .before in
     let inv = lo .loop .inv in
-    let passed = c .before .passes-test .ensures in
+    let passed = rw (c .before .before .passes-test .ensures, c .before .before .before .either .ensures, c .before .before .before .before .is-attribute .ensures, c .before .before .before .before .before .same .ensures) at (c .before .both .ensures) in
     ⊎-elim
     (λ w. (
       omega arith,
@@ -79,7 +92,11 @@ list-range-spec =
     Inv-loop
     μ-loop
     loop-holds
+    same-requires
+    is-attribute-requires
+    either-requires
     passes-test-requires
+    both-requires
     cast-list
     mul-list
     slice-write-list

@@ -1,7 +1,9 @@
 -- `candidates::list_subtree` meets its contract: the descendants with x itself are the rows of the range.
 -- Assumes nothing.
+use mathlib.Core.Path.{sym, _∙_}
 use borrow.Author.Needs.{needs}
-use Rattle.meaning.specs.Axis.{candidates}
+use Rattle.meaning.specs.Axis.{principal, candidates}
+use Rattle.meaning.proofs.Lists.{keep-keep}
 use Rattle.meaning.proofs.Ranges.{subtree-range}
 use Rattle.candidates.proofs.list_subtree.Statement.{statement}
 use Rattle.candidates.proofs.list_subtree.Tie as tie
@@ -16,11 +18,11 @@ same-length : tie.Need-same-length
 same-length c = search needs
 
 returns : tie.Need-returns
-unfolding candidates
+unfolding candidates principal
 returns c =
     let done = c .before .before .list-range .ensures in
     let past = c .before .before .before .before .past-subtree .ensures in
-    (rw (subtree-range _ _ _ past) (done .0), done .1)
+    (done .0 ∙ sym (rw (subtree-range _ _ _ past) (keep-keep _ _ _)), done .1)
 
 pub list-subtree-spec : {M : Type 1} → statement M
 list-subtree-spec =

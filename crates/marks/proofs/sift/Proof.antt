@@ -7,21 +7,24 @@ use lib.ListN.{length, getD, length-set}
 use native.Mathlib.Omega.{arith}
 use borrow.Author.Needs.{needs}
 use Rattle.meaning.specs.Table.{rows}
-use Rattle.meaning.specs.Axis.{passes, testOf}
+use Rattle.meaning.specs.Axis.{axisOf, principal, passes, testOf}
 use Rattle.meaning.proofs.Marks.{Wrote, wrote-start, wrote-ahead, wrote-more, wrote-all}
 use Rattle.marks.specs.Sets.{Sifted}
 use Rattle.marks.proofs.sift.Statement.{statement}
 use Rattle.marks.proofs.sift.Tie as tie
 
 abbrev Inv-loop : tie.InvT-loop
-Inv-loop table test marks₀ n i₀ marks i = (i ≤ n) × (n ≡ rows table) × (length marks ≡ length marks₀) × Wrote (λ y. getD marks₀ y false && passes table (testOf test) y) marks₀ marks i
+Inv-loop table axis test marks₀ kind n i₀ marks i = (i ≤ n) × (n ≡ rows table) × (length marks ≡ length marks₀) × Wrote (λ y. getD marks₀ y false && passes table (principal (axisOf axis)) (testOf test) y) marks₀ marks i
 
 abbrev μ-loop : tie.MeasureT-loop
-μ-loop table test marks₀ n i₀ marks i = n - i
+μ-loop table axis test marks₀ kind n i₀ marks i = n - i
 
 returns : tie.Need-returns Inv-loop μ-loop
 unfolding Sifted passes testOf
 returns c y l = rw (c .if1 .taken) (sym (and-true (getD (c .before .before .before .args .marks .now) y false)))
+
+principal-requires : tie.Need-principal-requires Inv-loop μ-loop
+principal-requires c κs = search needs
 
 row-count-requires : tie.Need-row-count-requires Inv-loop μ-loop
 row-count-requires c κs = search needs
@@ -51,7 +54,7 @@ loop-again : tie.Need-loop-again Inv-loop μ-loop
 loop-again c =
     let lo = c .before .before .before .before in
     let inv = lo .loop .inv in
-    (omega arith, inv .1, simp length-set (inv .2), wrote-more _ _ _ _ _ (inv .3) (omega arith) (c .both .ensures ∙ rw (wrote-ahead _ _ _ _ (lo .loop .i) (inv .3) (omega arith), c .before .passes-test .ensures)))
+    (omega arith, inv .1, simp length-set (inv .2), wrote-more _ _ _ _ _ (inv .3) (omega arith) (c .both .ensures ∙ rw (wrote-ahead _ _ _ _ (lo .loop .i) (inv .3) (omega arith), c .before .passes-test .ensures, lo .before .before .principal .ensures)))
 
 same-length : tie.Need-same-length Inv-loop μ-loop
 same-length c = search needs
@@ -67,6 +70,7 @@ sift-spec =
     Inv-loop
     μ-loop
     returns
+    principal-requires
     row-count-requires
     loop-holds
     slice-read-both

@@ -47,7 +47,7 @@ unfolding inverseOf
 returns-10 c = (rw (c .match .keys10), search needs)
 
 returns-11 : tie.Need-returns-11
-returns-11 c = (inverse-rest _ (c .match .rest .0 .0 .0 .0 .0 .0 .0 .0 .0 .1) (c .match .rest .0 .0 .0 .0 .0 .0 .0 .0 .1) (c .match .rest .0 .0 .0 .0 .0 .0 .0 .1) (c .match .rest .0 .0 .0 .0 .0 .0 .1) (c .match .rest .0 .0 .0 .0 .0 .1) (c .match .rest .0 .0 .0 .0 .1) (c .match .rest .0 .0 .0 .1) (c .match .rest .0 .0 .1) (c .match .rest .0 .1) (c .match .rest .1), search needs)
+returns-11 c = (inverse-rest _ (c .match .rest), search needs)
 
 pub inverse-axis-spec : {M : Type 1} → statement M
 inverse-axis-spec =

@@ -1,27 +1,39 @@
--- `reach::last_marked` meets its contract: a number is below what was gathered exactly if it is below a marked row passed. The measure is what is left of n.
+-- `reach::last_marked` meets its contract: a number is below what was gathered exactly if it is below a row passed that gives. The measure is what is left of the rows.
 -- Assumes nothing.
 use Prim.Native.Nat.{_+_, _-_, _≤_}
+use mathlib.Core.Path.{_≡_, refl, _∙_}
+use mathlib.Core.Bool.{true}
 use lib.Dec.{ltb}
 use native.Mathlib.Omega.{arith}
 use borrow.Author.Needs.{needs}
 use borrow.Author.Tests.{le-ltb}
 use Rattle.meaning.specs.Lists.{upTo}
-use Rattle.reach.specs.Reach.{beyond}
-use Rattle.reach.proofs.Sweep.{Gathered, gathered-start, gathered-more, gathered-all}
+use Rattle.meaning.specs.Table.{rows}
+use Rattle.reach.specs.Reach.{admitted, beyond}
+use Rattle.reach.proofs.Sweep.{Gathered, gathered-start, gathered-more, giving, gives, given-gathered}
 use Rattle.reach.proofs.last_marked.Statement.{statement}
 use Rattle.reach.proofs.last_marked.Tie as tie
 
 abbrev Inv-loop : tie.InvT-loop
-Inv-loop from n high₀ i₀ high i = (i ≤ n) × Gathered (beyond + 1) (λ x y. ltb y x) from (upTo i) (λ y. ltb y high)
+Inv-loop table attributes from n high₀ i₀ high i = (i ≤ n) × (n ≡ rows table) × Gathered (beyond + 1) (λ x y. ltb y x) (giving from (admitted table true attributes)) (upTo i) (λ y. ltb y high)
 
 abbrev μ-loop : tie.MeasureT-loop
-μ-loop from n high₀ i₀ high i = n - i
+μ-loop table attributes from n high₀ i₀ high i = n - i
+
+row-count-requires : tie.Need-row-count-requires Inv-loop μ-loop
+row-count-requires c κs = search needs
 
 loop-holds : tie.Need-loop-holds Inv-loop μ-loop
-loop-holds c = (omega arith, gathered-start _ _ _ _ (λ y l. le-ltb y 0 (omega arith)))
+loop-holds c = (omega arith, c .row-count .ensures, gathered-start _ _ _ _ (λ y l. le-ltb y 0 (omega arith)))
 
-shared-slice-read-larger-if : tie.Need-shared-slice-read-larger-if Inv-loop μ-loop
-shared-slice-read-larger-if c = search needs
+shared-slice-read-both : tie.Need-shared-slice-read-both Inv-loop μ-loop
+shared-slice-read-both c = search needs
+
+admits-requires : tie.Need-admits-requires Inv-loop μ-loop
+admits-requires c κs = search needs
+
+both-requires : tie.Need-both-requires Inv-loop μ-loop
+both-requires c κs = search needs
 
 larger-if-requires : tie.Need-larger-if-requires Inv-loop μ-loop
 larger-if-requires c κs = search needs
@@ -33,10 +45,19 @@ loop-less : tie.Need-loop-less Inv-loop μ-loop
 loop-less c = search needs
 
 loop-again : tie.Need-loop-again Inv-loop μ-loop
-loop-again c = let inv = c .before .before .before .loop .inv in (omega arith, gathered-more _ _ _ _ _ _ (inv .1) (λ y l. c .larger-if .ensures y))
+loop-again c =
+    let lo = c .before .before .before .before .before in
+    let st = lo .before .before .before .before in
+    let inv = lo .loop .inv in
+    let own = c .before .both in
+    let given : own .result ≡ giving (st .args .from .now) (admitted (st .args .table .now) true (st .args .attributes)) (lo .loop .i) = gives _ _ _ _ _ _ refl (c .before .before .admits .ensures) (own .ensures) in
+    (omega arith, inv .1, gathered-more _ _ _ _ _ _ (inv .2) (λ y l. c .larger-if .ensures y ∙ rw (given)))
 
 returns : tie.Need-returns Inv-loop μ-loop
-returns c = λ y l. gathered-all _ _ _ _ _ _ (c .before .loop .inv .1) (omega arith) y (omega arith)
+returns c =
+    let lo = c .before in
+    let e : lo .loop .i ≡ lo .before .row-count .result = omega arith in
+    λ y l. given-gathered _ _ _ _ _ _ _ (lo .loop .inv .2) (e ∙ lo .loop .inv .1) y (omega arith)
 
 pub last-marked-spec : {M : Type 1} → statement M
 last-marked-spec =
@@ -44,8 +65,11 @@ last-marked-spec =
     (tie.spec
     Inv-loop
     μ-loop
+    row-count-requires
     loop-holds
-    shared-slice-read-larger-if
+    shared-slice-read-both
+    admits-requires
+    both-requires
     larger-if-requires
     add-i
     loop-less

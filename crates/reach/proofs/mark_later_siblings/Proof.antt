@@ -1,10 +1,9 @@
--- `reach::mark_later_siblings` meets its contract: a row is flagged exactly if a marked row passed has it as its parent; the rows passed are marked exactly if they are reached, and the others as they were. The measure is what is left of the rows.
+-- `reach::mark_later_siblings` meets its contract: a row is flagged exactly if a row passed that gives has it as its parent; the rows passed are marked exactly if they are reached, and the others as they were. The measure is what is left of the rows.
 -- Assumes nothing.
 use Prim.Native.Nat.{_-_, _<_, _≤_}
-use mathlib.Core.Path.{_≡_, refl}
-use mathlib.Core.Bool.{false}
-use lib.ListN.{length, getD, length-set}
-use lib.ListN.{getD-replicate}
+use mathlib.Core.Path.{_≡_, refl, _∙_}
+use mathlib.Core.Bool.{true, false}
+use lib.ListN.{length, getD, length-set, getD-replicate}
 use native.Mathlib.Omega.{arith}
 use borrow.Author.Needs.{needs}
 use Rattle.meaning.specs.Lists.{upTo}
@@ -12,8 +11,8 @@ use Rattle.meaning.specs.Table.{rows, mostRows}
 use Rattle.meaning.specs.Axis.{on}
 use Rattle.meaning.specs.Axis as A
 use Rattle.meaning.proofs.Marks.{Wrote, wrote-start, wrote-more, wrote-ahead}
-use Rattle.reach.specs.Reach.{hit}
-use Rattle.reach.proofs.Sweep.{Gathered, gathered-start, gathered-more, rooted, later-hit, up-hits, flag-step}
+use Rattle.reach.specs.Reach.{hit, admitted}
+use Rattle.reach.proofs.Sweep.{Gathered, gathered-start, gathered-more, giving, gives, over, rooted, later-hit, up-hits, flag-step}
 use Rattle.reach.proofs.mark_later_siblings.Statement.{statement}
 use Rattle.reach.proofs.mark_later_siblings.Tie as tie
 
@@ -23,8 +22,8 @@ Inv-loop table marks₀ n seen₀ i₀ marks seen i =
     × (n ≡ rows table)
     × (length marks ≡ length marks₀)
     × (length seen ≡ mostRows)
-    × Gathered (rows table) (on table A.parent) marks₀ (upTo i) (λ q. getD seen q false)
-    × Wrote (hit table A.following-sibling marks₀) marks₀ marks i
+    × Gathered (rows table) (over table) (giving marks₀ (admitted table true false)) (upTo i) (λ q. getD seen q false)
+    × Wrote (hit table (on table A.following-sibling) marks₀) marks₀ marks i
 
 abbrev μ-loop : tie.MeasureT-loop
 μ-loop table marks₀ n seen₀ i₀ marks seen i = n - i
@@ -45,8 +44,17 @@ array-read-passed c =
     let low : lo .loop .i < rows (st .args .table .now) = omega arith in
     omega (arith, rooted _ (st .pre .parents) _ low, st .pre .small)
 
-slice-read-marked : tie.Need-slice-read-marked Inv-loop μ-loop
-slice-read-marked c = search needs
+admits-requires : tie.Need-admits-requires Inv-loop μ-loop
+admits-requires c κs = search needs
+
+slice-read-both : tie.Need-slice-read-both Inv-loop μ-loop
+slice-read-both c = search needs
+
+both-requires : tie.Need-both-requires Inv-loop μ-loop
+both-requires c κs = search needs
+
+both-requires-2 : tie.Need-both-requires-2 Inv-loop μ-loop
+both-requires-2 c κs = search needs
 
 slice-write-marks : tie.Need-slice-write-marks Inv-loop μ-loop
 slice-write-marks c = search needs
@@ -54,15 +62,15 @@ slice-write-marks c = search needs
 below-requires : tie.Need-below-requires Inv-loop μ-loop
 below-requires c κs = search needs
 
-both-requires : tie.Need-both-requires Inv-loop μ-loop
-both-requires c κs = search needs
+both-requires-3 : tie.Need-both-requires-3 Inv-loop μ-loop
+both-requires-3 c κs = search needs
 
 either-requires : tie.Need-either-requires Inv-loop μ-loop
 either-requires c κs = search needs
 
 array-write-seen : tie.Need-array-write-seen Inv-loop μ-loop
 array-write-seen c =
-    let lo = c .before .before .before .before .before .before in
+    let lo = c .before .before .before .before .before .before .before .before .before in
     let st = lo .before .before .before .before in
     let low : lo .loop .i < rows (st .args .table .now) = omega arith in
     omega (arith, rooted _ (st .pre .parents) _ low, st .pre .small)
@@ -75,20 +83,23 @@ loop-less c = search needs
 
 loop-again : tie.Need-loop-again Inv-loop μ-loop
 loop-again c =
-    let pa = c .before .before .before .before in
+    let pa = c .before .before .before .before .before .before .before in
     let lo = pa .before .before in
     let st = lo .before .before .before .before in
     let inv = lo .loop .inv in
     let i = lo .loop .i in
-    let low : i < rows (st .args .table .now) = omega arith in
+    let t = st .args .table .now in
+    let low : i < rows t = omega arith in
     let old = wrote-ahead _ _ _ _ i (inv .5) (omega arith) in
-    let flag : pa .parent-at .result < length (lo .loop .seen) = omega (arith, rooted _ (st .pre .parents) _ low, st .pre .small) in (
+    let flag : pa .parent-at .result < length (lo .loop .seen) = omega (arith, rooted _ (st .pre .parents) _ low, st .pre .small) in
+    let own = c .before .before .before .before .both in
+    let given : own .result ≡ giving (st .args .marks .now) (admitted t true false) i = gives _ _ _ _ _ _ old (c .before .before .before .before .before .before .admits .ensures) (own .ensures) in (
       omega arith,
       inv .1,
       simp length-set (inv .2),
       simp length-set (inv .3),
-      gathered-more _ _ _ _ _ _ (inv .4) (λ q l. rw (← old) (flag-step (st .args .table .now) (lo .loop .seen) i _ (getD (lo .loop .marks) i false) _ _ _ (pa .parent-at .ensures .0) (c .before .before .below .ensures) (c .before .both .ensures) (c .either .ensures) flag q)),
-      wrote-more _ _ _ _ _ (inv .5) (omega arith) (rw (pa .parent-at .ensures .0) (later-hit _ _ _ low (st .pre .parents) _ (inv .4))),
+      gathered-more _ _ _ _ _ _ (inv .4) (λ q l. rw (← given) (flag-step t (lo .loop .seen) i _ (own .result) _ _ _ (pa .parent-at .ensures .0) (c .before .before .below .ensures) (c .before .both3 .ensures) (c .either .ensures) flag q)),
+      wrote-more _ _ _ _ _ (inv .5) (omega arith) (c .before .before .before .both2 .ensures ∙ rw (c .before .before .before .before .before .before .admits .ensures, pa .parent-at .ensures .0) (later-hit _ _ _ low (st .pre .parents) _ (inv .4))),
     )
 
 same-length : tie.Need-same-length Inv-loop μ-loop
@@ -107,10 +118,13 @@ mark-later-siblings-spec =
     loop-holds
     parent-at-requires
     array-read-passed
-    slice-read-marked
+    admits-requires
+    slice-read-both
+    both-requires
+    both-requires-2
     slice-write-marks
     below-requires
-    both-requires
+    both-requires-3
     either-requires
     array-write-seen
     add-i

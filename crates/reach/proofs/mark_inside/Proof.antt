@@ -1,32 +1,32 @@
--- `reach::mark_descendants` meets its contract: a number is below far exactly if it is not past the end of a marked row passed; the rows passed are marked exactly if they are reached, and the others as they were. The measure is what is left of the rows.
+-- `reach::mark_inside` meets its contract: a number is below far exactly if it is not past the end of a marked row passed; the rows passed are marked exactly if they are reached, and the others as they were. The measure is what is left of the rows.
 -- Assumes nothing.
 use Prim.Native.Nat.{_+_, _-_, _<_, _≤_}
 use mathlib.Core.Path.{_≡_, refl, _∙_}
-use mathlib.Core.Bool.{cond}
-use lib.Dec.{ltb}
+use mathlib.Core.Bool.{true, _&&_, _||_}
+use lib.Dec.{ltb, eqb}
 use lib.ListN.{length, length-set}
 use native.Mathlib.Omega.{arith}
 use borrow.Author.Needs.{needs}
 use borrow.Author.Tests.{le-ltb}
 use Rattle.meaning.specs.Lists.{upTo}
 use Rattle.meaning.specs.Table.{rows, end}
-use Rattle.meaning.specs.Axis as A
+use Rattle.meaning.specs.Axis.{inside}
 use Rattle.meaning.proofs.Marks.{Wrote, wrote-start, wrote-more, wrote-ahead}
-use Rattle.reach.specs.Reach.{hit, beyond}
-use Rattle.reach.proofs.Sweep.{Gathered, gathered-start, gathered-more, below-hit, up-hits}
-use Rattle.reach.proofs.mark_descendants.Statement.{statement}
-use Rattle.reach.proofs.mark_descendants.Tie as tie
+use Rattle.reach.specs.Reach.{hit, admitted, beyond}
+use Rattle.reach.proofs.Sweep.{Gathered, gathered-start, gathered-more, marked, inside-hit, up-hits}
+use Rattle.reach.proofs.mark_inside.Statement.{statement}
+use Rattle.reach.proofs.mark_inside.Tie as tie
 
 abbrev Inv-loop : tie.InvT-loop
-Inv-loop table own marks₀ n far₀ i₀ marks far i =
+Inv-loop table own attributes marks₀ n far₀ i₀ marks far i =
     (i ≤ n)
     × (n ≡ rows table)
     × (length marks ≡ length marks₀)
-    × Gathered (beyond + 1) (λ x z. ltb z (end table x + 1)) marks₀ (upTo i) (λ z. ltb z far)
-    × Wrote (hit table (cond own A.descendant-or-self A.descendant) marks₀) marks₀ marks i
+    × Gathered (beyond + 1) (λ x z. ltb z (end table x + 1)) (marked marks₀) (upTo i) (λ z. ltb z far)
+    × Wrote (hit table (λ x y. (own && eqb x y) || (inside table x y && admitted table true attributes y)) marks₀) marks₀ marks i
 
 abbrev μ-loop : tie.MeasureT-loop
-μ-loop table own marks₀ n far₀ i₀ marks far i = n - i
+μ-loop table own attributes marks₀ n far₀ i₀ marks far i = n - i
 
 row-count-requires : tie.Need-row-count-requires Inv-loop μ-loop
 row-count-requires c κs = search needs
@@ -37,11 +37,17 @@ loop-holds c = (omega arith, c .row-count .ensures, refl, gathered-start _ _ _ _
 slice-read-marked : tie.Need-slice-read-marked Inv-loop μ-loop
 slice-read-marked c = search needs
 
+below-requires : tie.Need-below-requires Inv-loop μ-loop
+below-requires c κs = search needs
+
+admits-requires : tie.Need-admits-requires Inv-loop μ-loop
+admits-requires c κs = search needs
+
 both-requires : tie.Need-both-requires Inv-loop μ-loop
 both-requires c κs = search needs
 
-below-requires : tie.Need-below-requires Inv-loop μ-loop
-below-requires c κs = search needs
+both-requires-2 : tie.Need-both-requires-2 Inv-loop μ-loop
+both-requires-2 c κs = search needs
 
 either-requires : tie.Need-either-requires Inv-loop μ-loop
 either-requires c κs = search needs
@@ -67,7 +73,7 @@ loop-less c = search needs
 loop-again : tie.Need-loop-again Inv-loop μ-loop
 loop-again c =
     let ei = c .before .before in
-    let lo = ei .before .before .before .before .before in
+    let lo = ei .before .before .before .before .before .before .before in
     let st = lo .before .before .before .before in
     let inv = lo .loop .inv in
     let old = wrote-ahead _ _ _ _ (lo .loop .i) (inv .4) (omega arith) in
@@ -76,7 +82,7 @@ loop-again c =
       inv .1,
       simp length-set (inv .2),
       gathered-more _ _ _ _ _ _ (inv .3) (λ y l. c .larger-if .ensures y ∙ rw (c .before .end-at .ensures .0, old)),
-      wrote-more _ _ _ _ _ (inv .4) (omega arith) (ei .either .ensures ∙ rw (ei .before .below .ensures, ei .before .before .both .ensures, old) (below-hit _ _ _ low (st .args .own) _ (inv .3) (omega arith))),
+      wrote-more _ _ _ _ _ (inv .4) (omega arith) (ei .either .ensures ∙ rw (ei .before .both2 .ensures, ei .before .before .both .ensures, ei .before .before .before .admits .ensures, ei .before .before .before .before .below .ensures, old) (inside-hit _ _ _ low (st .args .own) (st .args .attributes) _ (inv .3) (omega arith))),
     )
 
 same-length : tie.Need-same-length Inv-loop μ-loop
@@ -85,8 +91,8 @@ same-length c = search needs
 returns : tie.Need-returns Inv-loop μ-loop
 returns c = up-hits _ _ _ _ _ (c .before .loop .inv .4) (omega arith)
 
-pub mark-descendants-spec : {M : Type 1} → statement M
-mark-descendants-spec =
+pub mark-inside-spec : {M : Type 1} → statement M
+mark-inside-spec =
     tie.close
     (tie.spec
     Inv-loop
@@ -94,8 +100,10 @@ mark-descendants-spec =
     row-count-requires
     loop-holds
     slice-read-marked
-    both-requires
     below-requires
+    admits-requires
+    both-requires
+    both-requires-2
     either-requires
     slice-write-marks
     end-at-requires

@@ -1,0 +1,99 @@
+-- Attributes (document 02, W-209): from a node that is no attribute only the attribute axis leads to one, so a walk without a step on it
+-- meets none. That is why demand 3 and W-208 speak of nodes that are no attributes, and lose nothing by it.
+-- Assumes nothing.
+use Prim.Native.Nat.{ℕ, _<_, _≤_}
+use mathlib.Core.Path.{_≡_, refl, _∙_}
+use mathlib.Core.Logic.{inl, inr}
+use mathlib.Core.Bool.{Bool, true, false, _&&_, _||_, not}
+use mathlib.Core.List.{List}
+use lib.Dec.{T, leb, ltb, eqb, ltb→lt, leb→le, eqb→eq}
+use lib.Ieee.{Float}
+use native.Mathlib.Omega.{arith}
+use Rattle.meaning.specs.Lists.{some, has, upTo}
+use Rattle.meaning.specs.Table.{kind, parentOf, rows, end, isAttribute, goodRoot, siblingBefore, accepted}
+use Rattle.meaning.specs.Axis.{Axis, axisOf, lastAxis, testOf, under, inside, after, on, principal, candidates, passes}
+use Rattle.meaning.specs.Axis as A
+use Rattle.meaning.specs.Rows.{Op}
+use Rattle.meaning.specs.Tree.{Tree, none, node}
+use Rattle.meaning.specs.Meaning.{holds, float, keepAt, union, value, walk, filtered}
+use Rattle.meaning.specs.Turning.{someStep, isOfAttributes, ofAttributes}
+use Rattle.meaning.proofs.Bools.{and-l, and-r, or-e, or-none-l, or-none-r, is-false, truly, not-e, lt-or-ge}
+use Rattle.meaning.proofs.Lists.{some-to, has-keep-to, has-upTo-to, keepAt-among}
+use Rattle.meaning.proofs.Tables.{Plain, Child, child, root-holds, whole, some-row}
+use Rattle.meaning.proofs.DataModel.{holder, element-plain}
+use Rattle.meaning.proofs.Decoding.{principal-kind}
+use Rattle.meaning.proofs.Places.{placed, placed-on, candidate-is}
+
+-- a step that is not on the attribute axis: `*` and names match elements
+pub usual-step : (b : Tree) (c : ℕ) → isOfAttributes b c ≡ false → principal (axisOf c) ≡ 1
+usual-step b c e = principal-kind c ∙ rw e
+
+-- predicates keep of a list what stands in it
+filtered-among : (t : List ℕ) (literals : List Float) (e : Tree) (l : List ℕ) (y : ℕ) → T (has (filtered t literals e l) y) → T (has l y)
+unfolding filtered
+filtered-among t literals none l y h = h
+filtered-among t literals (node op a b c d) l y h = filtered-among t literals a l y (keepAt-among _ 1 (filtered t literals a l) y h)
+
+module _ (t : List ℕ) (acc : accepted t ≡ true) where
+  -- a row that holds others is no attribute
+  holder-plain : (y : ℕ) → y < rows t → y < end t y → isAttribute t y ≡ false
+  unfolding goodRoot
+  holder-plain y l more = elim (lt-or-ge 0 y) [
+    | inl p ↦ element-plain t y (holder t (rows t) (whole t acc) y p l more)
+    | inr z ↦
+        let e : y ≡ 0 = omega arith in
+        let g : T (goodRoot t) = root-holds t (rows t) (whole t acc) (some-row t acc) in
+        let f : T (eqb (kind t 0) 0) = search (and-l, and-r) in
+        rw (e, eqb→eq (kind t 0) 0 f)
+  ]
+
+  -- no more is one inside which another row stands
+  pub inside-plain : (x y : ℕ) → x < rows t → T (inside t y x) → isAttribute t y ≡ false
+  unfolding inside
+  inside-plain x y h k =
+      let a : y < x = ltb→lt y x (and-l (ltb y x) (leb x (end t y)) k) in
+      let b : x ≤ end t y = leb→le x (end t y) (and-r (ltb y x) (leb x (end t y)) k) in
+      holder-plain y (omega arith) (omega arith)
+
+  -- every other axis leads from a node that is no attribute to such nodes alone
+  pub stays-plain : (a : Axis) → principal a ≡ 1 → (x y : ℕ) → Plain t x → T (on t a x y) → isAttribute t y ≡ false
+  unfolding on under principal
+  stays-plain A.self u x y h k = let e : x ≡ y = eqb→eq x y k in rw (← e) (h .1)
+  stays-plain A.child u x y h k = is-false (isAttribute t y) (not-e (isAttribute t y) (and-r (under t x y) (not (isAttribute t y)) k))
+  stays-plain A.parent u x y h k =
+      let p : 0 < x = ltb→lt 0 x (and-l (ltb 0 x) (eqb (parentOf t x) y) k) in
+      let e : parentOf t x ≡ y = eqb→eq (parentOf t x) y (and-r (ltb 0 x) (eqb (parentOf t x) y) k) in
+      let c : Child t x = child t acc x p (h .0) in
+      rw (← e) (holder-plain (parentOf t x) (omega (arith, c .below, h .0)) (omega (arith, c .below, c .reached)))
+  stays-plain A.descendant u x y h k = is-false (isAttribute t y) (not-e (isAttribute t y) (and-r (inside t x y) (not (isAttribute t y)) k))
+  stays-plain A.ancestor u x y h k = inside-plain x y (h .0) k
+  stays-plain A.descendant-or-self u x y h k = or-e (eqb x y) (inside t x y && not (isAttribute t y)) k
+      (λ m. let e : x ≡ y = eqb→eq x y m in rw (← e) (h .1))
+      (λ m. is-false (isAttribute t y) (not-e (isAttribute t y) (and-r (inside t x y) (not (isAttribute t y)) m)))
+  stays-plain A.ancestor-or-self u x y h k = or-e (eqb x y) (inside t y x) k
+      (λ m. let e : x ≡ y = eqb→eq x y m in rw (← e) (h .1))
+      (λ m. inside-plain x y (h .0) m)
+  stays-plain A.following u x y h k = is-false (isAttribute t y) (not-e (isAttribute t y) (and-r (after t x y) (not (isAttribute t y)) k))
+  stays-plain A.preceding u x y h k = is-false (isAttribute t y) (not-e (isAttribute t y) (and-r (after t y x) (not (isAttribute t y)) k))
+  stays-plain A.following-sibling u x y h k = let n : T (not (isAttribute t y)) = search (and-l, and-r) in is-false (isAttribute t y) (not-e (isAttribute t y) n)
+  stays-plain A.preceding-sibling u x y h k = let n : T (not (isAttribute t y)) = search (and-l, and-r) in is-false (isAttribute t y) (not-e (isAttribute t y) n)
+  stays-plain A.attribute u x y h k = absurd (omega arith)
+
+  -- a walk from nodes that are no attributes, without a step on the attribute axis, meets none, whatever its predicates count
+  pub walk-stays-plain : (literals : List Float) (s : Tree) → ofAttributes s ≡ false → (set : List ℕ) → ((x : ℕ) → T (has set x) → Plain t x)
+      → (y : ℕ) → T (has (walk t literals s set) y) → Plain t y
+  unfolding walk union someStep
+  walk-stays-plain literals none u set plain y h = plain y h
+  walk-stays-plain literals (node op a b c d) u set plain y h =
+      let w : List ℕ = walk t literals a set in
+      let step : ℕ → List ℕ = λ x. filtered t literals b (candidates t (axisOf c) (testOf d) x) in
+      let r = has-keep-to (λ y. some (λ x. has (step x) y) w) (upTo (rows t)) y h in
+      let q = some-to (λ x. has (step x) y) w (r .0) in
+      let x : ℕ = q .0 in
+      let low : y < rows t = has-upTo-to (rows t) y (r .1) in
+      let m : T (has (candidates t (axisOf c) (testOf d) x) y) = filtered-among t literals b (candidates t (axisOf c) (testOf d) x) y (q .1) in
+      let o : T (placed t (axisOf c) x y) = and-l (placed t (axisOf c) x y) (passes t (principal (axisOf c)) (testOf d) y) (rw (candidate-is t (axisOf c) x (testOf d) y) at m) in (
+        low,
+        stays-plain (axisOf c) (usual-step b c (or-none-r (ofAttributes a) (isOfAttributes b c) u)) x y
+            (walk-stays-plain literals a (or-none-l (ofAttributes a) (isOfAttributes b c) u) set plain x (q .2)) (rw (placed-on t (axisOf c) x y low) at o),
+      )
