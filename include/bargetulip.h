@@ -10,13 +10,17 @@
  *
  * A node table is 4 numbers a row, 1 to 4,096 rows, in document order:
  *   kind    0 root (row 0 only), 1 element, 2 text, 3 comment,
- *           4 processing instruction
- *   name    1 to 65,535 for kinds 1 and 4, otherwise 0
- *   parent  row number of the parent; 0 in row 0
- *   size    number of descendants; 0 for kinds 2, 3 and 4
+ *           4 processing instruction, 5 attribute
+ *   name    1 to 65,535 for kinds 1, 4 and 5, otherwise 0
+ *   parent  row number of the parent, of an attribute its element; 0 in row 0
+ *   size    number of rows below it, attributes included; 0 for kinds 2 to 5
  * The root has one element child and no text child, and no text directly
  * follows a text sibling: a second element and such texts are broken rows.
  * Row 0 is broken if there is no row of kind 1.
+ * The attributes of an element stand straight behind its row, before all its
+ * children, in any order of their names: an attribute that stands elsewhere is
+ * a broken row, and so is one whose name an earlier attribute of its element
+ * has.
  *
  * A table file is a node table as text, in memory that the caller lends: lines
  * key=value, each ended by one line feed, exactly these in this order:
@@ -47,9 +51,16 @@
  *                                 b = number or truth
  * Axes: 0 self, 1 child, 2 parent, 3 descendant, 4 ancestor,
  * 5 descendant-or-self, 6 ancestor-or-self, 7 following, 8 preceding,
- * 9 following-sibling, 10 preceding-sibling.
+ * 9 following-sibling, 10 preceding-sibling, 11 attribute.
  * Tests: 0 node(), 1 *, 2 text(), 3 comment(), 4 processing-instruction(),
- * 16 + k an element named k.
+ * 16 + k the name k. On axis 11 * and names match attributes, on every other
+ * axis elements.
+ * An attribute lies on the attribute axis of its element and on its own self,
+ * descendant-or-self and ancestor-or-self axes, and on no other axis of any
+ * node. From an attribute, parent and ancestor lead to its element and up;
+ * following and preceding hold the later and the earlier nodes that are neither
+ * attributes nor its ancestors, the children of its element among the later;
+ * child, descendant, both sibling axes and attribute are empty.
  *
  * Literals are finite doubles with a clear sign bit, at most 64 of them.
  *
@@ -81,9 +92,11 @@
 extern "C" {
 #endif
 
-/* The numbers given back. Checks run in this order, but for the reader and the
- * writer of table files, which say their own, and the first that applies is
- * returned; *place is always written and means what the comment says. */
+/* The numbers given back. Checks run in the order of this list (13 came later
+ * and stands between 9 and 10: all steps are looked at for 9 before any is for
+ * 13), but for the reader and the writer of table files, which say their own,
+ * and the first that applies is returned; *place is always written and means
+ * what the comment says. */
 enum {
     BT_DONE = 0,          /* done: nodes or rows written (checkers: row count;
                              files: numbers or bytes written) */
@@ -98,6 +111,8 @@ enum {
     BT_ROOM = 8,          /* more nodes selected than out holds: how many */
     BT_COUNTS = 9,        /* turning: a step counts positions: its number from 1,
                              the first such */
+    BT_ATTRIBUTE_STEP = 13, /* turning: a top-level step is on the attribute
+                             axis: its number from 1, the first such */
     BT_ABSOLUTE = 10,     /* turning: the path is absolute: 0 */
     BT_TURN_ROOM = 11,    /* turning: rows + 1 above 256, or out shorter than
                              5 * (rows + 1): rows + 1 */
@@ -120,9 +135,9 @@ uint32_t bt_check_table(const uint32_t *table, size_t table_len, uint32_t *place
 
 /* The place of node y on the axis of node x: counted from 1 in the order in
  * which positions count along that axis (axes 2, 4, 6, 8 and 10 run against
- * document order), before any test, so that nodes of every kind count.
+ * document order), before any test, so that all nodes on the axis count.
  * Returns the place, or 0 if y is not on the axis, the table is not accepted,
- * axis is above 10, or x or y is not a row. */
+ * axis is above 11, or x or y is not a row. */
 uint32_t bt_axis_place(const uint32_t *table, size_t table_len,
                        uint32_t axis, uint32_t x, uint32_t y);
 
@@ -146,17 +161,20 @@ uint32_t bt_evaluate(const uint32_t *table, size_t table_len,
                      uint32_t *out, size_t out_len, uint32_t *place);
 
 /* Turns a relative path round: x is selected from y by the turned path exactly
- * if y is selected from x by the path, on every accepted table.
- * Returns 0, 3 to 6 or 9 to 11. On 0 the *place rows of the turned path stand
- * in out[0 .. 5 * *place - 1], to be used with the same literals, and the rest
- * of out is unchanged. On every other number out is unchanged. */
+ * if y is selected from x by the path, on every accepted table, for nodes x and
+ * y that are no attributes. Paths in predicates may have steps on the attribute
+ * axis; a step of the path itself may not (13).
+ * Returns 0, 3 to 6, 9, 13, 10 or 11, checked in this order. On 0 the *place
+ * rows of the turned path stand in out[0 .. 5 * *place - 1], to be used with
+ * the same literals, and the rest of out is unchanged. On every other number
+ * out is unchanged. */
 uint32_t bt_turn(const uint32_t *path, size_t path_len,
                  const double *literals, size_t literals_len,
                  uint32_t *out, size_t out_len, uint32_t *place);
 
 /* The part of an answer that lies in the subtree of one node, without a copy:
  * list[*begin .. *begin + *count - 1] are the entries from node to the last
- * row of its subtree, both included. Both are always written.
+ * row of its subtree, both included, attributes too. Both are always written.
  * *count is 0 if there is no such entry, the table is not accepted, node is
  * not a row, or the list is not strictly ascending with every entry below the
  * row count; *begin then means nothing. */
