@@ -15,7 +15,7 @@ enum { MAX_NODES = 4096, MAX_ROWS = 256, MAX_LITERALS = 64, MAX_DEPTH = 8 };
 
 /* ---- tables ---- */
 
-enum { ROOT, ELEMENT, TEXT, COMMENT, INSTRUCTION };
+enum { ROOT, ELEMENT, TEXT, COMMENT, INSTRUCTION, ATTRIBUTE };
 
 struct row { uint32_t kind, name, parent, size; };
 
@@ -49,7 +49,7 @@ static bool root_row_holds(const uint32_t *table, uint64_t rows)
 
 static bool name_holds(struct row row)
 {
-    if (row.kind == ELEMENT || row.kind == INSTRUCTION)
+    if (row.kind == ELEMENT || row.kind == INSTRUCTION || row.kind == ATTRIBUTE)
         return row.name >= 1 && row.name <= 65535;
     return row.name == 0;
 }
@@ -75,11 +75,11 @@ static bool earlier_root_element(const uint32_t *table, uint64_t i)
     return false;
 }
 
-/* the nearest lower row with the same parent, or 0: row 0 is nobody's sibling */
+/* the nearest lower row with the same parent, or 0: row 0 and attributes are nobody's siblings */
 static uint64_t previous_sibling(const uint32_t *table, uint64_t i)
 {
     uint64_t j = i - 1;
-    while (j > 0 && row_at(table, j).parent != row_at(table, i).parent)
+    while (j > 0 && (row_at(table, j).kind == ATTRIBUTE || row_at(table, j).parent != row_at(table, i).parent))
         j--;
     return j;
 }
@@ -93,14 +93,40 @@ static bool siblings_hold(const uint32_t *table, uint64_t i)
     return row.kind != ELEMENT || row.parent != 0 || !earlier_root_element(table, i);
 }
 
+/* whether attribute row i stands straight behind its element or behind another attribute of it */
+static bool stands_with_attributes(const uint32_t *table, uint64_t i)
+{
+    struct row row = row_at(table, i), before = row_at(table, i - 1);
+    if (before.kind == ATTRIBUTE)
+        return before.parent == row.parent;
+    return before.kind == ELEMENT && row.parent == i - 1;
+}
+
+/* whether an earlier attribute of the same element has the name of attribute row i */
+static bool name_repeated(const uint32_t *table, uint64_t i)
+{
+    struct row row = row_at(table, i);
+    for (uint64_t j = 1; j < i; j++) {
+        struct row other = row_at(table, j);
+        if (other.kind == ATTRIBUTE && other.parent == row.parent && other.name == row.name)
+            return true;
+    }
+    return false;
+}
+
+static bool attributes_hold(const uint32_t *table, uint64_t i)
+{
+    return row_at(table, i).kind != ATTRIBUTE || (stands_with_attributes(table, i) && !name_repeated(table, i));
+}
+
 static bool other_row_holds(const uint32_t *table, uint64_t i)
 {
     struct row row = row_at(table, i);
-    if (row.kind < ELEMENT || row.kind > INSTRUCTION)
+    if (row.kind < ELEMENT || row.kind > ATTRIBUTE)
         return false;
     if (row.kind != ELEMENT && row.size != 0)
         return false;
-    return name_holds(row) && parent_holds(table, i) && siblings_hold(table, i);
+    return name_holds(row) && parent_holds(table, i) && siblings_hold(table, i) && attributes_hold(table, i);
 }
 
 uint32_t ref_check_table(const uint32_t *table, size_t table_len, uint32_t *place)
@@ -120,10 +146,12 @@ uint32_t ref_check_table(const uint32_t *table, size_t table_len, uint32_t *plac
 
 /* ---- the linked tree (section 5, Data Model) ---- */
 
+/* an attribute has a parent but is no child of it (5.3): it hangs in a list of its own */
 struct node {
     uint32_t kind, name;
-    uint32_t order, last_order; /* place in document order, its own and its last descendant's */
+    uint32_t order, last_order; /* place in document order, its own and that of the last node below it */
     struct node *parent, *first, *last, *next, *previous;
+    struct node *attribute; /* of an element its first attribute, of an attribute the next one */
 };
 
 static void append_child(struct node *parent, struct node *child)
@@ -137,6 +165,13 @@ static void append_child(struct node *parent, struct node *child)
     parent->last = child;
 }
 
+/* before is the element itself or its attribute so far last */
+static void append_attribute(struct node *element, struct node *before, struct node *attribute)
+{
+    attribute->parent = element;
+    before->attribute = attribute;
+}
+
 /* one node for each row of an accepted table, in document order */
 static struct node *plant(const uint32_t *table, uint32_t rows)
 {
@@ -145,12 +180,15 @@ static struct node *plant(const uint32_t *table, uint32_t rows)
         struct row row = row_at(table, i);
         nodes[i].kind = row.kind;
         nodes[i].name = row.name;
-        nodes[i].order = i;
-        if (i > 0)
+        nodes[i].order = nodes[i].last_order = i;
+        if (row.kind == ATTRIBUTE)
+            append_attribute(&nodes[row.parent], &nodes[i - 1], &nodes[i]);
+        else if (i > 0)
             append_child(&nodes[row.parent], &nodes[i]);
     }
-    for (uint32_t i = rows; i > 0; i--)
-        nodes[i - 1].last_order = nodes[i - 1].last ? nodes[i - 1].last->last_order : i - 1;
+    for (uint32_t i = rows - 1; i > 0; i--)
+        if (nodes[i].parent->last_order < nodes[i].last_order)
+            nodes[i].parent->last_order = nodes[i].last_order;
     return nodes;
 }
 
@@ -164,15 +202,18 @@ static struct node *next_inside(struct node *node, struct node *top)
     return node == top ? NULL : node->next;
 }
 
-/* the node just behind the whole subtree of node in document order, or none */
+/* the first node that is no attribute behind the whole subtree of node in document order, or none: behind an
+ * attribute come the children of its element */
 static struct node *next_outside(struct node *node)
 {
+    if (node->kind == ATTRIBUTE && node->parent->first)
+        return node->parent->first;
     while (node && !node->next)
         node = node->parent;
     return node ? node->next : NULL;
 }
 
-/* the node just in front of node in document order, or none */
+/* the nearest node that is no attribute in front of node in document order, or none */
 static struct node *previous_in_document(struct node *node)
 {
     if (!node->previous)
@@ -280,7 +321,7 @@ static bool field_fits(const uint32_t *path, uint32_t r, int f, size_t literals)
     switch (form) {
     case NOTHING: return value == 0;
     case INDEX: return value < literals;
-    case AXIS: return value <= 10;
+    case AXIS: return value <= 11;
     case TEST: return test_allowed(value);
     }
     if (value == 0)
@@ -511,7 +552,7 @@ uint32_t ref_check_path(const uint32_t *path, size_t path_len,
 
 enum {
     SELF, CHILD, PARENT, DESCENDANT, ANCESTOR, DESCENDANT_OR_SELF, ANCESTOR_OR_SELF,
-    FOLLOWING, PRECEDING, FOLLOWING_SIBLING, PRECEDING_SIBLING
+    FOLLOWING, PRECEDING, FOLLOWING_SIBLING, PRECEDING_SIBLING, ATTRIBUTE_AXIS
 };
 
 static struct node *next_preceding(struct node *node, const struct node *context)
@@ -532,6 +573,7 @@ static struct node *axis_first(uint32_t axis, struct node *context)
     case PRECEDING: return next_preceding(context, context);
     case FOLLOWING_SIBLING: return context->next;
     case PRECEDING_SIBLING: return context->previous;
+    case ATTRIBUTE_AXIS: return context->kind == ELEMENT ? context->attribute : NULL;
     default: return context;
     }
 }
@@ -546,26 +588,33 @@ static struct node *axis_next(uint32_t axis, struct node *node, struct node *con
     case FOLLOWING: return node->first ? node->first : next_outside(node);
     case PRECEDING: return next_preceding(node, context);
     case PRECEDING_SIBLING: return node->previous;
+    case ATTRIBUTE_AXIS: return node->attribute;
     default: return NULL;
     }
 }
 
-static bool passes(uint32_t test, const struct node *node)
+/* section 2.3: the principal node type of an axis, which * and names ask for */
+static uint32_t principal_kind(uint32_t axis)
+{
+    return axis == ATTRIBUTE_AXIS ? ATTRIBUTE : ELEMENT;
+}
+
+static bool passes(uint32_t axis, uint32_t test, const struct node *node)
 {
     switch (test) {
     case 0: return true;
-    case 1: return node->kind == ELEMENT;
+    case 1: return node->kind == principal_kind(axis);
     case 2: return node->kind == TEXT;
     case 3: return node->kind == COMMENT;
     case 4: return node->kind == INSTRUCTION;
-    default: return node->kind == ELEMENT && node->name == test - 16;
+    default: return node->kind == principal_kind(axis) && node->name == test - 16;
     }
 }
 
 uint32_t ref_axis_place(const uint32_t *table, size_t table_len, uint32_t axis, uint32_t x, uint32_t y)
 {
     uint32_t rows, place = 1;
-    if (ref_check_table(table, table_len, &rows) != 0 || axis > PRECEDING_SIBLING || x >= rows || y >= rows)
+    if (ref_check_table(table, table_len, &rows) != 0 || axis > ATTRIBUTE_AXIS || x >= rows || y >= rows)
         return 0;
     struct node *nodes = plant(table, rows);
     struct node *node = axis_first(axis, &nodes[x]);
@@ -675,7 +724,7 @@ static uint32_t candidates(uint32_t axis, uint32_t test, struct node *context, s
     uint32_t count = 0;
     struct node *node = axis_first(axis, context);
     for (; node; node = axis_next(axis, node, context))
-        if (passes(test, node))
+        if (passes(axis, test, node))
             list[count++] = node;
     return count;
 }
@@ -804,9 +853,20 @@ static uint32_t first_counting(const struct path *path)
     return 0;
 }
 
+/* the number from 1 of the first step on the attribute axis, or 0 */
+static uint32_t first_to_attributes(const struct path *path)
+{
+    uint32_t number = 1;
+    for (const struct step *step = path->first; step; step = step->next, number++)
+        if (step->axis == ATTRIBUTE_AXIS)
+            return number;
+    return 0;
+}
+
+/* of any axis but the attribute axis, which has none */
 static uint32_t inverse(uint32_t axis)
 {
-    static const uint32_t other[11] = {
+    static const uint32_t other[ATTRIBUTE_AXIS] = {
         SELF, PARENT, CHILD, ANCESTOR, DESCENDANT, ANCESTOR_OR_SELF, DESCENDANT_OR_SELF,
         PRECEDING, FOLLOWING, PRECEDING_SIBLING, FOLLOWING_SIBLING
     };
@@ -872,7 +932,7 @@ static void write_turned(struct writer *w, const struct path *path)
     write_row(w, RELATIVE, previous, 0, 0, 0);
 }
 
-/* numbers 9 to 11, and 0 with the rows written */
+/* numbers 9, 13, 10 and 11, in this order, and 0 with the rows written */
 static uint32_t turn_accepted(const struct path *top, uint32_t rows,
                               uint32_t *out, size_t out_len, uint32_t *place)
 {
@@ -880,6 +940,9 @@ static uint32_t turn_accepted(const struct path *top, uint32_t rows,
     *place = first_counting(top);
     if (*place != 0)
         return 9;
+    *place = first_to_attributes(top);
+    if (*place != 0)
+        return 13;
     if (top->absolute)
         return 10;
     *place = rows + 1;
