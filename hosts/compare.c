@@ -1,15 +1,18 @@
 /* compare.c: holds the archive to the independent reference on random inputs.
  *
  *   compare SEED COUNT [FIRST]   COUNT random inputs, all eight functions each
+ *   compare fixed                the cases of attributes whose answers are known
  *   compare stress               the largest inputs, on a stack of 1 MiB
  *
  * Both sides get the same output slice, filled with the same random words and
  * with more such words around it; afterwards the whole must be equal, and on a
- * refusal untouched. Inputs end at a page that cannot be read. The first
- * difference is printed with its input and ends the program with status 1.
+ * refusal untouched. Inputs end at a page that cannot be read. A path that the
+ * archive turns is run from both ends of a pair of nodes. The first difference
+ * is printed with its input and ends the program with status 1.
  */
 #include "bargetulip.h"
 #include "compare_files.h"
+#include "fixed.h"
 #include "harness.h"
 #include "reference.h"
 #include "stress.h"
@@ -18,7 +21,7 @@
 #include <stdlib.h>
 #include <string.h>
 
-enum { OUT_ROOM = 4200, FENCED = 32 * 4096, AXES = 11, FEW_ROWS = 24, NUMBERS = 12 };
+enum { OUT_ROOM = 4200, FENCED = 32 * 4096, AXES = 12, FEW_ROWS = 24, NUMBERS = 14, ATTRIBUTE = 5 };
 
 /* more work than this is left out: a few tens of milliseconds */
 static const uint64_t WORK_LIMIT = 6000000;
@@ -33,6 +36,9 @@ static const char *const names[FUNCTIONS] = {
  * axes there was one */
 static uint64_t seen[FUNCTIONS][NUMBERS];
 static uint64_t left_out;
+
+/* for how many pairs of nodes a path and its turned path were run, and how many of the pairs they select */
+static uint64_t pairs, pairs_selected;
 
 /* ---- inputs with a fence behind them ---- */
 
@@ -240,23 +246,91 @@ static bool agree(enum function f, struct random *random, const struct input *in
     return !why;
 }
 
+/* ---- turned paths ---- */
+
+/* what the archive selects, or nothing if it refuses or the work is too long */
+static const struct result *selection(const struct input *in)
+{
+    static struct result r;
+    ask_reference(EVALUATE, in, OUT_ROOM, &r);
+    if (r.number != 0)
+        return NULL;
+    ask_archive(EVALUATE, in, fence(in), OUT_ROOM, &r);
+    return r.number == 0 ? &r : NULL;
+}
+
+static bool is_selected(const struct result *r, uint32_t node)
+{
+    for (uint32_t i = 0; i < r->place[1]; i++)
+        if (r->out[MARGIN + i] == node)
+            return true;
+    return false;
+}
+
+/* some node: one that is selected, or that of the input */
+static uint32_t other_end(struct random *random, const struct input *in, const struct result *r)
+{
+    if (r->place[1] == 0 || chance(random, 40))
+        return in->node;
+    return r->out[MARGIN + below(random, r->place[1])];
+}
+
+/* whether a node is a row of the table and no attribute */
+static bool is_end(const struct input *in, uint32_t node)
+{
+    return node < in->table_len / 4 && in->table[4 * (size_t)node] != ATTRIBUTE;
+}
+
+/* demand 3, of nodes that are no attributes: the turned path selects the start from another node exactly if the
+ * path selects that node from the start */
+static bool turns_round(struct random *random, const struct input *in)
+{
+    static struct input turned;
+    uint32_t rows;
+    turned = *in;
+    if (bt_turn(in->path, in->path_len, in->literals, in->literals_len, turned.path, PATH_ROOM, &rows) != 0)
+        return true;
+    const struct result *r = is_end(in, in->start) ? selection(in) : NULL;
+    if (!r)
+        return true;
+    turned.path_len = 5 * (size_t)rows;
+    turned.start = other_end(random, in, r);
+    bool selected = is_selected(r, turned.start);
+    r = is_end(in, turned.start) ? selection(&turned) : NULL;
+    if (!r)
+        return true;
+    pairs++;
+    pairs_selected += selected;
+    if (is_selected(r, in->start) == selected)
+        return true;
+    printf("DIFFERENCE between a path and its turned path, from %u and from %u\n", in->start, turned.start);
+    print_rows("table", in->table, in->table_len, 4);
+    print_rows("path", in->path, in->path_len, 5);
+    print_literals(in);
+    return false;
+}
+
+/* ---- whole runs ---- */
+
 static void print_summary(uint64_t cases)
 {
     for (int f = 0; f < FUNCTIONS; f++)
         print_seen(names[f], seen[f], NUMBERS,
                    f == VIEW ? "0 empty, 1 a part" : f == PLACE ? "axes:times" : "number:times");
     print_files_seen();
+    printf("turned paths     run from both ends of %lu pairs, %lu selected\n",
+           (unsigned long)pairs, (unsigned long)pairs_selected);
     printf("agreed: %lu inputs, %lu evaluations left out as too long\n",
            (unsigned long)cases, (unsigned long)left_out);
 }
 
-/* asks for the six functions over numbers, then for the two over files */
+/* asks for the six functions over numbers, for the two over files, and for a turned path's pairs */
 static bool all_agree(struct random *random, const struct input *in)
 {
     for (int f = 0; f < FUNCTIONS; f++)
         if (!agree((enum function)f, random, in))
             return false;
-    return files_agree(random, in);
+    return files_agree(random, in) && turns_round(random, in);
 }
 
 static int compare(unsigned long seed, unsigned long count, unsigned long first)
@@ -276,10 +350,12 @@ static int compare(unsigned long seed, unsigned long count, unsigned long first)
 
 int main(int argc, char **argv)
 {
+    if (argc == 2 && strcmp(argv[1], "fixed") == 0)
+        return fixed();
     if (argc == 2 && strcmp(argv[1], "stress") == 0)
         return stress();
     if (argc != 3 && argc != 4) {
-        puts("usage: compare SEED COUNT [FIRST] | compare stress");
+        puts("usage: compare SEED COUNT [FIRST] | compare fixed | compare stress");
         return 2;
     }
     return compare(strtoul(argv[1], NULL, 10), strtoul(argv[2], NULL, 10),

@@ -35,7 +35,7 @@ static uint32_t random_name(struct random *random)
 /* a name for a row of that kind, or 0 */
 static uint32_t name_for(struct random *random, uint32_t kind)
 {
-    return kind == 1 || kind == 4 ? random_name(random) : 0;
+    return kind == 1 || kind == 4 || kind == 5 ? random_name(random) : 0;
 }
 
 /* how many of the open nodes to close before the next row */
@@ -52,12 +52,12 @@ static uint32_t closing(struct random *random, enum shape shape, uint32_t open)
 /* a table under construction: the open nodes, the root first, and the kind of the last child of each */
 struct grower { struct random *random; uint32_t *table, rows, open, path[4096], last[4096]; };
 
-/* adds a row as a child of the innermost open node */
-static void grow(struct grower *g, uint32_t kind)
+/* adds a row under the innermost open node */
+static void grow_named(struct grower *g, uint32_t kind, uint32_t name)
 {
     uint32_t *row = g->table + 4 * g->rows;
     row[0] = kind;
-    row[1] = name_for(g->random, kind);
+    row[1] = name;
     row[2] = g->path[g->open - 1];
     g->last[g->open - 1] = kind;
     if (kind == 1) {
@@ -65,6 +65,28 @@ static void grow(struct grower *g, uint32_t kind)
         g->path[g->open++] = g->rows;
     }
     g->rows++;
+}
+
+static void grow(struct grower *g, uint32_t kind)
+{
+    grow_named(g, kind, name_for(g->random, kind));
+}
+
+/* how many attributes an element gets: few, or as many as there is room for */
+static uint32_t some_attributes(struct random *random, uint32_t room, bool many)
+{
+    uint32_t count = 1 + below(random, chance(random, 95) ? 3 : 30);
+    return many || count > room ? room : count;
+}
+
+/* gives the innermost open element attributes, each of another name, the names in any order */
+static void grow_attributes(struct grower *g, uint32_t count)
+{
+    static const uint32_t strides[] = {1, 7, 32767, 65533}; /* no factor in common with 4 or 65,535 */
+    uint32_t names = count <= 4 && chance(g->random, 90) ? 4 : 65535;
+    uint32_t name = below(g->random, names), stride = strides[below(g->random, 4)];
+    for (; count > 0; count--, name += stride)
+        grow_named(g, 5, 1 + name % names);
 }
 
 /* how many comments and instructions stand before or behind the root's element */
@@ -92,15 +114,21 @@ static uint32_t next_kind(struct grower *g, uint32_t elements)
     return last != 2 && chance(g->random, 50) ? 2 : 3 + below(g->random, 2);
 }
 
-/* the root's element and what is below it, up to row end; some small tables have many leaves */
-static void grow_element(struct grower *g, uint32_t end, enum shape shape)
+/* the root's element and what is below it, up to row end; some small tables have many leaves; so many
+ * elements in a hundred have attributes, in few tables one of them all the rest of the rows */
+static void grow_element(struct grower *g, uint32_t end, enum shape shape, uint32_t attributes)
 {
-    uint32_t elements = end < 100 && chance(g->random, 40) ? 45 : shape == CHAIN ? 97 : 75;
-    grow(g, 1);
-    while (g->rows < end) {
+    uint32_t elements = end < 100 && chance(g->random, 40) ? 45 : shape == CHAIN ? 97 : 75, kind = 1;
+    uint32_t many = chance(g->random, 5) ? below(g->random, end) : end;
+    for (;;) {
+        grow(g, kind);
+        if (kind == 1 && chance(g->random, attributes))
+            grow_attributes(g, some_attributes(g->random, end - g->rows, g->rows > many));
+        if (g->rows == end)
+            break;
         uint32_t closed = g->open > 2 ? closing(g->random, shape, g->open) : 0;
         g->open = g->open > 2 + closed ? g->open - closed : 2;
-        grow(g, next_kind(g, elements));
+        kind = next_kind(g, elements);
     }
     g->open = 1;
 }
@@ -114,13 +142,13 @@ static void fill_sizes(uint32_t *table, uint32_t rows)
         table[4 * table[4 * i + 2] + 3] += 1 + table[4 * i + 3];
 }
 
-void make_table(struct random *random, struct input *in, uint32_t rows, enum shape shape)
+void make_table(struct random *random, struct input *in, uint32_t rows, enum shape shape, uint32_t attributes)
 {
     struct grower g = {random, in->table, 1, 1, {0}, {0}};
     uint32_t before = around(random, rows - 2), behind = around(random, rows - 2 - before);
     memset(in->table, 0, sizeof in->table);
     grow_around(&g, before);
-    grow_element(&g, rows - behind, shape);
+    grow_element(&g, rows - behind, shape, attributes);
     grow_around(&g, behind);
     fill_sizes(in->table, rows);
     in->table_len = 4 * (size_t)rows;
@@ -133,7 +161,7 @@ static void make_small_table(struct random *random, struct input *in, uint32_t r
     memset(in->table, 0, sizeof in->table);
     while (g.rows < rows) {
         g.open = chance(random, 60) ? g.open : 1 + below(random, g.open);
-        grow(&g, chance(random, 30) ? 1 : chance(random, 95) ? 1 + below(random, 4) : below(random, 6));
+        grow(&g, chance(random, 30) ? 1 : chance(random, 95) ? 1 + below(random, 5) : below(random, 7));
     }
     fill_sizes(in->table, rows);
     in->table_len = 4 * (size_t)rows;
@@ -141,14 +169,28 @@ static void make_small_table(struct random *random, struct input *in, uint32_t r
 
 /* ---- paths ---- */
 
-/* a path under construction: rows in postorder, links as the form has them */
-struct builder { struct random *random; struct input *in; uint32_t rows; };
+/* a path under construction: rows in postorder, links as the form has them; so many steps in a hundred are
+ * on the attribute axis */
+struct builder { struct random *random; struct input *in; uint32_t rows, attributes; };
+
+static struct builder begin_path(struct random *random, struct input *in)
+{
+    static const uint32_t attributes[] = {0, 0, 10, 30};
+    struct builder builder = {random, in, 0, attributes[below(random, 4)]};
+    memset(in->path, 0, sizeof in->path);
+    return builder;
+}
 
 static uint32_t add_row(struct builder *b, uint32_t op, uint32_t a, uint32_t c, uint32_t d, uint32_t e)
 {
     uint32_t row[5] = {op, a, c, d, e};
     memcpy(b->in->path + 5 * b->rows, row, sizeof row);
     return ++b->rows;
+}
+
+static uint32_t some_axis(struct builder *b)
+{
+    return chance(b->random, b->attributes) ? 11 : below(b->random, 11);
 }
 
 static uint32_t random_test(struct random *random)
@@ -241,7 +283,7 @@ static uint32_t build_path(struct builder *b, uint32_t budget, int depth, bool t
     do {
         uint32_t room = end - b->rows - 1;
         uint32_t predicates = build_predicates(b, room > 1 ? below(b->random, room + 1) : 0, depth);
-        previous = add_row(b, 24, previous, predicates, below(b->random, 11), random_test(b->random));
+        previous = add_row(b, 24, previous, predicates, some_axis(b), random_test(b->random));
     } while (b->rows < end && (full || chance(b->random, 60)));
     return add_row(b, absolute ? 23 : 22, previous, 0, 0, 0);
 }
@@ -282,22 +324,20 @@ static void shuffle_rows(struct random *random, uint32_t *path, uint32_t rows)
 
 void make_path(struct random *random, struct input *in, uint32_t rows, bool full, int depth)
 {
-    struct builder builder = {random, in, 0};
-    memset(in->path, 0, sizeof in->path);
+    struct builder b = begin_path(random, in);
     if (rows == 1)
-        add_row(&builder, 23, 0, 0, 0, 0);
+        add_row(&b, 23, 0, 0, 0, 0);
     else
-        build_path(&builder, rows, depth - 1, true, full);
+        build_path(&b, rows, depth - 1, true, full);
     if (chance(random, 50))
-        shuffle_rows(random, in->path, builder.rows);
-    in->path_len = 5 * (size_t)builder.rows;
+        shuffle_rows(random, in->path, b.rows);
+    in->path_len = 5 * (size_t)b.rows;
 }
 
 /* a path nested exactly depth deep, by existence and by count in turn */
 static void make_nested(struct random *random, struct input *in, int depth)
 {
-    struct builder b = {random, in, 0};
-    memset(in->path, 0, sizeof in->path);
+    struct builder b = begin_path(random, in);
     uint32_t inner = 0;
     for (int level = 0; level < depth; level++) {
         uint32_t predicate = 0;
@@ -306,7 +346,7 @@ static void make_nested(struct random *random, struct input *in, int depth)
             uint32_t value = add_row(&b, count ? 21 : 20, inner, 0, 0, 0);
             predicate = add_row(&b, 25, 0, value, 0, 0);
         }
-        uint32_t step = add_row(&b, 24, 0, predicate, below(random, 11), random_test(random));
+        uint32_t step = add_row(&b, 24, 0, predicate, some_axis(&b), random_test(random));
         inner = add_row(&b, 22, step, 0, 0, 0);
     }
     in->path_len = 5 * (size_t)b.rows;
@@ -315,9 +355,8 @@ static void make_nested(struct random *random, struct input *in, int depth)
 /* one step that selects much, with a predicate of a few small numbers */
 static void make_probe(struct random *random, struct input *in)
 {
-    struct builder b = {random, in, 0};
+    struct builder b = begin_path(random, in);
     uint32_t predicate = 0, count = 1 + below(random, 2);
-    memset(in->path, 0, sizeof in->path);
     for (uint32_t n = 0; n < count; n++) {
         bool odd = in->literals_len > 0 && chance(random, 50);
         uint32_t left = odd ? build_odd_number(&b, chance(random, 40)) : build_number(&b, 1 + below(random, 4), 0);
@@ -325,18 +364,60 @@ static void make_probe(struct random *random, struct input *in)
         uint32_t value = add_row(&b, 10 + below(random, 6), left, right, 0, 0);
         predicate = add_row(&b, 25, predicate, value, 0, 0);
     }
-    uint32_t step = add_row(&b, 24, 0, predicate, below(random, 11), below(random, 2));
+    uint32_t step = add_row(&b, 24, 0, predicate, some_axis(&b), below(random, 2));
     add_row(&b, chance(random, 50) ? 22 : 23, step, 0, 0, 0);
+    in->path_len = 5 * (size_t)b.rows;
+}
+
+/* a predicate that is a small number, or none */
+static uint32_t maybe_number(struct builder *b, uint32_t percent)
+{
+    return chance(b->random, percent) ? add_row(b, 25, 0, build_number(b, 1 + below(b->random, 3), 0), 0, 0) : 0;
+}
+
+/* a predicate that asks whether there are such attributes, whether there are none, or how many */
+static uint32_t attribute_predicate(struct builder *b)
+{
+    struct random *random = b->random;
+    uint32_t step = add_row(b, 24, 0, maybe_number(b, 25), 11, random_test(random));
+    uint32_t path = add_row(b, 22, step, 0, 0, 0), value;
+    if (chance(random, 40)) {
+        value = add_row(b, 21, path, 0, 0, 0);
+        value = add_row(b, 10 + below(random, 6), value, build_number(b, 1 + below(random, 3), 0), 0, 0);
+    } else {
+        value = add_row(b, 20, path, 0, 0, 0);
+        value = chance(random, 40) ? add_row(b, 18, value, 0, 0, 0) : value;
+    }
+    return add_row(b, 25, 0, value, 0, 0);
+}
+
+/* over many nodes, often those with some attributes, most often to their attributes, and often on from there */
+static void make_attribute_path(struct random *random, struct input *in)
+{
+    struct builder b = begin_path(random, in);
+    uint32_t step = add_row(&b, 24, 0, 0, chance(random, 90) ? 5 : below(random, 11), 0);
+    if (chance(random, 50)) {
+        uint32_t predicate = chance(random, 70) ? attribute_predicate(&b) : 0;
+        step = add_row(&b, 24, step, predicate, chance(random, 70) ? 1 : below(random, 11), below(random, 2));
+    }
+    if (chance(random, 80)) {
+        uint32_t predicate = maybe_number(&b, 30);
+        step = add_row(&b, 24, step, predicate, 11, chance(random, 60) ? 0 : random_test(random));
+    }
+    if (chance(random, 40)) {
+        uint32_t predicate = chance(random, 30) ? attribute_predicate(&b) : maybe_number(&b, 20);
+        step = add_row(&b, 24, step, predicate, below(random, 12), random_test(random));
+    }
+    add_row(&b, chance(random, 30) ? 22 : 23, step, 0, 0, 0);
     in->path_len = 5 * (size_t)b.rows;
 }
 
 /* a path of bare steps, with exactly so many rows: the longest that can be turned, and longer */
 static void make_bare(struct random *random, struct input *in, uint32_t rows)
 {
-    struct builder b = {random, in, 0};
-    memset(in->path, 0, sizeof in->path);
+    struct builder b = begin_path(random, in);
     for (uint32_t step = 0; step + 1 < rows; step++)
-        add_row(&b, 24, step, 0, below(random, 11), random_test(random));
+        add_row(&b, 24, step, 0, some_axis(&b), random_test(random));
     add_row(&b, chance(random, 80) ? 22 : 23, rows - 1, 0, 0, 0);
     in->path_len = 5 * (size_t)rows;
 }
@@ -406,32 +487,38 @@ static uint32_t odd_number(struct random *random, uint32_t old, uint32_t rows)
 /* gives a row without children another kind, most often text */
 static void retype_leaf(struct random *random, uint32_t *table, uint32_t rows)
 {
-    uint32_t i = below(random, rows), kind = chance(random, 60) ? 2 : 1 + below(random, 4);
+    uint32_t i = below(random, rows), kind = chance(random, 50) ? 2 : 1 + below(random, 5);
     while (i + 1 < rows && table[4 * i + 3] != 0)
         i++;
     table[4 * i] = kind;
     table[4 * i + 1] = name_for(random, kind);
 }
 
-/* puts a row without children in front of row at, or under the root behind the last row */
-static void insert_leaf(struct random *random, struct input *in, uint32_t at, uint32_t kind)
+/* puts a row without children under a parent and in front of row at */
+static void insert_row(struct input *in, uint32_t at, uint32_t kind, uint32_t name, uint32_t parent)
 {
-    uint32_t *table = in->table, rows = (uint32_t)(in->table_len / 4);
-    uint32_t leaf[4] = {kind, name_for(random, kind), at < rows ? table[4 * at + 2] : 0, 0};
-    for (uint32_t i = rows; i > at; i--) {
+    uint32_t *table = in->table, leaf[4] = {kind, name, parent, 0};
+    for (uint32_t i = (uint32_t)(in->table_len / 4); i > at; i--) {
         memcpy(table + 4 * i, table + 4 * i - 4, sizeof leaf);
         table[4 * i + 2] += table[4 * i + 2] >= at;
     }
-    for (uint32_t i = 0; i < at && i <= leaf[2]; i++)
-        table[4 * i + 3] += (uint64_t)i + table[4 * i + 3] >= leaf[2];
+    for (uint32_t i = 0; i < at && i <= parent; i++)
+        table[4 * i + 3] += (uint64_t)i + table[4 * i + 3] >= parent;
     memcpy(table + 4 * at, leaf, sizeof leaf);
     in->table_len += 4;
+}
+
+/* puts a row without children beside row at and in front of it, or under the root behind the last row */
+static void insert_leaf(struct random *random, struct input *in, uint32_t at, uint32_t kind)
+{
+    uint32_t parent = at < in->table_len / 4 ? in->table[4 * at + 2] : 0;
+    insert_row(in, at, kind, name_for(random, kind), parent);
 }
 
 /* puts a row without children under the root or anywhere, or a text in front of the next text */
 static void add_leaf(struct random *random, struct input *in, uint32_t rows)
 {
-    uint32_t at = 1 + below(random, rows), kind = 1 + below(random, 4);
+    uint32_t at = 1 + below(random, rows), kind = 1 + below(random, 5);
     switch (below(random, 6)) {
     case 0: at = 1; break;
     case 1: at = rows; break;
@@ -444,10 +531,67 @@ static void add_leaf(struct random *random, struct input *in, uint32_t rows)
     insert_leaf(random, in, at, kind);
 }
 
+/* the first attribute from some row on, or 0 */
+static uint32_t some_attribute(struct random *random, const uint32_t *table, uint32_t rows)
+{
+    uint32_t i = below(random, rows);
+    while (i < rows && table[4 * i] != 5)
+        i++;
+    return i < rows ? i : 0;
+}
+
+/* the row behind attribute i and behind some of those of its element that follow it */
+static uint32_t behind_attribute(struct random *random, const uint32_t *table, uint32_t rows, uint32_t i)
+{
+    uint32_t j = i + 1;
+    while (j < rows && table[4 * j] == 5 && table[4 * j + 2] == table[4 * i + 2] && chance(random, 80))
+        j++;
+    return j;
+}
+
+/* the row behind all that is below row i, as far as there are rows */
+static uint32_t behind_subtree(const uint32_t *table, uint32_t rows, uint32_t i)
+{
+    uint64_t last = i + (uint64_t)table[4 * i + 3];
+    return last < rows ? (uint32_t)last + 1 : rows;
+}
+
+/* puts an attribute where none may stand: of the name of attribute i, behind the children of its element, or
+ * behind that element and with the same parent */
+static void add_attribute(struct random *random, struct input *in, uint32_t rows, uint32_t i)
+{
+    uint32_t *table = in->table, name = random_name(random);
+    uint32_t element = table[4 * i + 2] < rows ? table[4 * i + 2] : 0;
+    switch (below(random, 4)) {
+    case 0: insert_row(in, behind_subtree(table, rows, element), 5, name, element); break;
+    case 1: insert_row(in, behind_subtree(table, rows, element), 5, name, table[4 * element + 2]); break;
+    default: insert_row(in, behind_attribute(random, table, rows, i), 5, table[4 * i + 1], element); break;
+    }
+}
+
+/* hurts a rule that attributes have, or adds an attribute that hurts one; without attributes adds one anywhere */
+static void damage_attribute(struct random *random, struct input *in, uint32_t rows)
+{
+    uint32_t i = some_attribute(random, in->table, rows), *row = in->table + 4 * i;
+    uint32_t *element = in->table + 4 * (row[2] < rows ? row[2] : 0);
+    if (i == 0) {
+        insert_leaf(random, in, 1 + below(random, rows), 5);
+        return;
+    }
+    switch (below(random, 10)) {
+    case 0: row[0] = 6; break;
+    case 1: row[1] = chance(random, 50) ? 0 : 65536; break;
+    case 2: row[2] = chance(random, 50) ? i - 1 : 0; break;
+    case 3: row[3] = 1; break;
+    case 4: element[3] = chance(random, 50) ? 0 : element[3] - 1; break;
+    default: add_attribute(random, in, rows, i); break;
+    }
+}
+
 /* gives every element another kind, or every one but the last */
 static void drop_elements(struct random *random, uint32_t *table, uint32_t rows)
 {
-    uint32_t kind = 2 + below(random, 4);
+    uint32_t kind = 2 + below(random, 5);
     bool spared = chance(random, 30);
     for (uint32_t i = rows; i > 0; i--) {
         uint32_t *row = table + 4 * (i - 1);
@@ -467,14 +611,16 @@ static void damage_table(struct random *random, struct input *in)
         in->table_len = lengths[below(random, 8)];
     } else if (class < 22) {
         in->table_len += below(random, 9);
-    } else if (class < 60) {
+    } else if (class < 46) {
         uint32_t *row = in->table + 4 * below(random, rows);
         uint32_t *field = row + below(random, 4);
         *field = odd_number(random, *field, rows);
-    } else if (class < 76) {
+    } else if (class < 60) {
         retype_leaf(random, in->table, rows);
-    } else if (class < 96) {
+    } else if (class < 78) {
         add_leaf(random, in, rows);
+    } else if (class < 96) {
+        damage_attribute(random, in, rows);
     } else {
         drop_elements(random, in->table, rows);
     }
@@ -489,7 +635,7 @@ static void damage_row(struct random *random, const struct input *in, uint32_t *
     else if (row[0] == 1)
         row[1] = (uint32_t)in->literals_len + below(random, 2) - 1;
     else if (row[0] == 24 && chance(random, 40))
-        row[3] = 10 + below(random, 2);
+        row[3] = 10 + below(random, 3);
     else if (row[0] == 24 && chance(random, 60))
         row[4] = tests[below(random, 8)];
     else
@@ -560,13 +706,15 @@ static void any_path(struct random *random, struct input *in)
     int depth = chance(random, 5) ? 10 : 1 + (int)below(random, 8);
     if (class < 5)
         make_nested(random, in, 6 + (int)below(random, 5));
-    else if (class < 20)
+    else if (class < 17)
         make_probe(random, in);
-    else if (class < 24)
+    else if (class < 21)
         make_bare(random, in, chance(random, 50) ? 2 + below(random, 255) : 254 + below(random, 3));
-    else if (class < 60)
+    else if (class < 41)
+        make_attribute_path(random, in);
+    else if (class < 68)
         make_path(random, in, 1 + below(random, 14), false, depth);
-    else if (class < 85)
+    else if (class < 87)
         make_path(random, in, 2 + below(random, 60), false, depth);
     else
         make_path(random, in, class < 95 ? 2 + below(random, 255) : 254 + below(random, 3), true, depth);
@@ -581,12 +729,13 @@ static uint32_t any_node(struct random *random, uint32_t rows)
 
 void make_input(struct random *random, struct input *in)
 {
-    bool small = chance(random, 5);
+    static const uint32_t attributes[] = {0, 40, 80, 100};
+    bool small = chance(random, 8);
     uint32_t rows = small ? 1 + below(random, 12) : table_rows(random);
     if (small)
         make_small_table(random, in, rows);
     else
-        make_table(random, in, rows, (enum shape)below(random, SHAPES));
+        make_table(random, in, rows, (enum shape)below(random, SHAPES), attributes[below(random, 4)]);
     make_literals(random, in);
     any_path(random, in);
     make_list(random, in);

@@ -28,8 +28,9 @@ uint32_t any(struct random *random);                    /* any number */
 uint32_t below(struct random *random, uint32_t limit);  /* 0 to limit - 1 */
 bool chance(struct random *random, uint32_t percent);
 
-/* an accepted table with that many rows, 2 to 4,096 */
-void make_table(struct random *random, struct input *in, uint32_t rows, enum shape shape);
+/* an accepted table with that many rows, 2 to 4,096; so many of its elements in a hundred have attributes if
+ * there is room */
+void make_table(struct random *random, struct input *in, uint32_t rows, enum shape shape, uint32_t attributes);
 
 /* a path of at most that many rows (of exactly so many if full), with paths
  * nested at most depth deep; uses in->literals_len */

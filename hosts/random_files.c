@@ -227,7 +227,7 @@ static void blank(struct random *random, struct table_file *file)
 static void change_value(struct random *random, struct table_file *file)
 {
     static const char *const values[] = {
-        "0", "1", "2", "7", "9", "65535", "65536", "70000", "4294967294", "4294967295"
+        "0", "1", "2", "5", "6", "9", "65535", "65536", "70000", "4294967294", "4294967295"
     };
     set_value(file, some_line(random, file), ONE_OF(random, values));
 }

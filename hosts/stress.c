@@ -1,4 +1,4 @@
-/* stress.c: long, chained, deep and nested paths over 4,096 rows, and the longest files.
+/* stress.c: long, chained, deep and nested paths over 4,096 rows, the most attributes, and the longest files.
  *
  * Each case runs the archive in a thread whose stack is exactly 1 MiB, above a
  * page that cannot be touched, and compares the answers with the reference,
@@ -150,6 +150,19 @@ static void deepest(struct maker *m)
     finish(m, self_step(m, wrap(m, 18, held, 256 - 3 - (int)m->rows)));
 }
 
+/* paths nested 8 deep: ancestors with an attribute whose element has an attribute, and so on */
+static void nested_attributes(struct maker *m)
+{
+    uint32_t path = 0, step = 0;
+    for (int depth = 8; depth > 0; depth--) {
+        uint32_t predicate = path == 0 ? 0 : row(m, 25, 0, row(m, 20, path, 0, 0, 0), 0, 0);
+        step = row(m, 24, 0, predicate, depth == 1 ? 6 : depth % 2 == 0 ? 11 : 2, 0);
+        if (depth > 1)
+            path = row(m, 22, step, 0, 0, 0);
+    }
+    finish(m, step);
+}
+
 /* ---- one case on a small stack ---- */
 
 struct answers {
@@ -249,14 +262,10 @@ static void run_case(const char *what)
     note(same, used);
 }
 
-/* a table whose row 1 holds all rows behind it */
-static struct maker begin(enum shape shape, uint32_t start)
+/* an empty path, and a list of all nodes to look at from node 1 */
+static struct maker begin_path(uint32_t start)
 {
-    struct random random = {7};
     struct maker maker = {&in, 0};
-    do
-        make_table(&random, &in, ROWS, shape);
-    while (in.table[4 + 3] != ROWS - 2);
     memset(in.path, 0, sizeof in.path);
     in.literals[0] = 1;
     in.literals_len = 1;
@@ -265,6 +274,21 @@ static struct maker begin(enum shape shape, uint32_t start)
     in.start = start;
     in.node = 1;
     return maker;
+}
+
+/* a table whose row 1 holds all rows behind it; so many elements in a hundred have attributes */
+static struct maker begin_with(enum shape shape, uint32_t start, uint32_t attributes)
+{
+    struct random random = {7};
+    do
+        make_table(&random, &in, ROWS, shape, attributes);
+    while (in.table[4 + 3] != ROWS - 2);
+    return begin_path(start);
+}
+
+static struct maker begin(enum shape shape, uint32_t start)
+{
+    return begin_with(shape, start, 0);
 }
 
 static void run_steps(void)
@@ -354,6 +378,85 @@ static void run_nested(void)
     m = begin(WIDE, 4000);
     deepest(&m);
     run_case("counting steps nested 7 deep, below 224 nots");
+}
+
+/* ---- attributes ---- */
+
+/* one element with as many attributes as fit, each of another name; the names go on from one in steps */
+static void all_attributes(uint32_t first, uint32_t stride)
+{
+    memset(in.table, 0, sizeof in.table);
+    in.table[3] = ROWS - 1;
+    for (uint32_t i = 1; i < ROWS; i++) {
+        uint32_t numbers[4] = {5, 1 + (first + i * stride) % 65535, 1, 0};
+        memcpy(in.table + 4 * i, numbers, sizeof numbers);
+    }
+    uint32_t element[4] = {1, 1, 0, ROWS - 2};
+    memcpy(in.table + 4, element, sizeof element);
+    in.table_len = 4 * ROWS;
+}
+
+/* runs a case on a table whose answer is known */
+static void run_known(const char *what, uint32_t number, uint32_t place)
+{
+    uint32_t found;
+    run_case(what);
+    if (bt_check_table(in.table, in.table_len, &found) == number && found == place)
+        return;
+    printf("DIFFERENT  the table's number is not %u or its place not %u\n", number, place);
+    differences++;
+}
+
+/* gives a row the name of another one */
+static void repeat_name(uint32_t row, uint32_t other)
+{
+    in.table[4 * row + 1] = in.table[4 * other + 1];
+}
+
+static void run_many_attributes(void)
+{
+    static const uint32_t strides[] = {1, 65534, 32767, 4096}; /* no factor in common with 65,535 */
+    for (int i = 0; i < 4; i++) {
+        all_attributes(65535 - 100, strides[i]);
+        struct maker m = begin_path(1);
+        many_steps(&m, 3, 11, 2);
+        run_known("4,094 attributes, to them, back and to them", 0, ROWS);
+        repeat_name(ROWS - 1, 2);
+        run_known("4,094 attributes, last name as the first", 2, ROWS - 1);
+        repeat_name(ROWS - 1, ROWS - 2);
+        run_known("4,094 attributes, last name as the one before", 2, ROWS - 1);
+        repeat_name(ROWS / 2, ROWS / 2 - 1);
+        run_known("4,094 attributes, one name twice in the middle", 2, ROWS / 2);
+    }
+}
+
+/* from all nodes to their attributes, from there along an axis, and to the attributes of what is there */
+static void run_on_attributes(uint32_t axis)
+{
+    char what[64];
+    struct maker m = begin_with((enum shape)(axis % SHAPES), 0, 60);
+    uint32_t step = row(&m, 24, row(&m, 24, 0, 0, 5, 0), 0, 11, 0);
+    finish(&m, row(&m, 24, row(&m, 24, step, 0, axis, 0), 0, 11, 0));
+    snprintf(what, sizeof what, "attributes of all, axis %u, attributes there", axis);
+    run_case(what);
+}
+
+static void run_attributes(void)
+{
+    run_many_attributes();
+    all_attributes(0, 1);
+    struct maker m = begin_path(ROWS - 1);
+    many_predicates(&m, 6, 2);
+    run_case("[position()] chained, from the last of them up");
+    all_attributes(0, 1);
+    m = begin_path(1);
+    many_predicates(&m, 11, 3);
+    run_case("[last()] chained, attribute");
+    m = begin_with(BUSHY, 4000, 60);
+    nested_attributes(&m);
+    run_case("existence nested 8 deep, attribute and parent");
+    for (uint32_t axis = 0; axis <= 11; axis++)
+        run_on_attributes(axis);
 }
 
 /* ---- table files ---- */
@@ -467,6 +570,7 @@ int stress(void)
     run_operands();
     run_truths();
     run_nested();
+    run_attributes();
     run_files();
     printf("stress: %d different; most stack used %lu KiB of 1,024\n", differences, (unsigned long)(most / 1024));
     return differences != 0;

@@ -1,0 +1,331 @@
+/* fixed.c: the cases of attributes that fixed.h speaks of.
+ *
+ * The answers were worked out by hand from documents 01 and 02. Each case is
+ * asked of the archive and of the reference, so that the two cannot agree on
+ * something else. An answer is compared as text: its number and place, or its
+ * nodes.
+ */
+#include "fixed.h"
+
+#include "bargetulip.h"
+#include "reference.h"
+
+#include <stdbool.h>
+#include <stdio.h>
+#include <string.h>
+
+enum { MOST_ROWS = 11, AXES = 12, PATH_ROWS = 10, OUT_ROOM = 5 * PATH_ROWS, TEXT = 16 * OUT_ROOM };
+
+static const uint64_t WORK_LIMIT = 1000000;
+
+/* ---- the two sides ---- */
+
+static uint32_t reference_evaluate(const uint32_t *table, size_t table_len, const uint32_t *path, size_t path_len,
+                                   const double *literals, size_t literals_len, uint32_t start,
+                                   uint32_t *out, size_t out_len, uint32_t *place)
+{
+    return ref_evaluate(table, table_len, path, path_len, literals, literals_len, start, out, out_len, place,
+                        WORK_LIMIT);
+}
+
+struct side {
+    const char *name;
+    uint32_t (*check_table)(const uint32_t *table, size_t table_len, uint32_t *place);
+    uint32_t (*axis_place)(const uint32_t *table, size_t table_len, uint32_t axis, uint32_t x, uint32_t y);
+    uint32_t (*evaluate)(const uint32_t *table, size_t table_len, const uint32_t *path, size_t path_len,
+                         const double *literals, size_t literals_len, uint32_t start,
+                         uint32_t *out, size_t out_len, uint32_t *place);
+    uint32_t (*turn)(const uint32_t *path, size_t path_len, const double *literals, size_t literals_len,
+                     uint32_t *out, size_t out_len, uint32_t *place);
+    void (*view)(const uint32_t *table, size_t table_len, const uint32_t *list, size_t list_len,
+                 uint32_t node, size_t *begin, size_t *length);
+};
+
+static const struct side sides[] = {
+    {"archive", bt_check_table, bt_axis_place, bt_evaluate, bt_turn, bt_view},
+    {"reference", ref_check_table, ref_axis_place, reference_evaluate, ref_turn, ref_view},
+};
+
+/* what literal n of every path is: n itself */
+static const double literals[] = {0, 1, 2};
+
+enum { LITERALS = sizeof literals / sizeof *literals };
+
+/* ---- answers as text ---- */
+
+static int answers, differences;
+
+static void spell_numbers(char *to, const uint32_t *numbers, size_t count)
+{
+    to[0] = 0;
+    for (size_t i = 0; i < count; i++)
+        to += snprintf(to, 16, i == 0 ? "%u" : " %u", numbers[i]);
+}
+
+/* the numbers written if it is done, otherwise the number and the place */
+static void spell_answer(char *to, uint32_t number, uint32_t place, const uint32_t *out, size_t width)
+{
+    size_t count = width * place;
+    if (number == 0)
+        spell_numbers(to, out, count < OUT_ROOM ? count : OUT_ROOM);
+    else
+        snprintf(to, TEXT, "refused with %u, place %u", number, place);
+}
+
+static void hold(const struct side *side, const char *what, const char *expected, const char *found)
+{
+    answers++;
+    if (strcmp(expected, found) == 0)
+        return;
+    differences++;
+    printf("DIFFERENT  %s: %s\n  expected: %s\n  found:    %s\n", side->name, what, expected, found);
+}
+
+/* ---- tables ---- */
+
+/* rows up to the first behind row 0 that is all 0 */
+static size_t rows_of(const uint32_t *table, size_t most)
+{
+    static const uint32_t end[4];
+    size_t rows = 1;
+    while (rows < most && memcmp(table + 4 * rows, end, sizeof end) != 0)
+        rows++;
+    return rows;
+}
+
+static const struct table { const char *what, *answer; uint32_t table[4 * MOST_ROWS]; } tables[] = {
+    {"one attribute", "0 3", {0,0,0,2, 1,1,0,1, 5,1,1,0}},
+    {"the greatest name", "0 3", {0,0,0,2, 1,1,0,1, 5,65535,1,0}},
+    {"names that don't ascend", "0 4", {0,0,0,3, 1,1,0,2, 5,2,1,0, 5,1,1,0}},
+    {"a name again on another element", "0 5", {0,0,0,4, 1,1,0,3, 5,1,1,0, 1,2,1,1, 5,1,3,0}},
+    {"a text behind an attribute", "0 4", {0,0,0,3, 1,1,0,2, 5,1,1,0, 2,0,1,0}},
+    {"kind 6", "2 2", {0,0,0,2, 1,1,0,1, 6,1,1,0}},
+    {"name 0", "2 2", {0,0,0,2, 1,1,0,1, 5,0,1,0}},
+    {"name 65,536", "2 2", {0,0,0,2, 1,1,0,1, 5,65536,1,0}},
+    {"size 1", "2 2", {0,0,0,3, 1,1,0,2, 5,1,1,1, 3,0,2,0}},
+    {"no element", "2 0", {0,0,0,1, 5,1,0,0}},
+    {"under the root, before its element", "2 1", {0,0,0,2, 5,1,0,0, 1,1,0,0}},
+    {"under the root, behind its element", "2 2", {0,0,0,2, 1,1,0,0, 5,1,0,0}},
+    {"under a text", "2 3", {0,0,0,3, 1,1,0,2, 2,0,1,0, 5,1,2,0}},
+    {"under an attribute", "2 3", {0,0,0,3, 1,1,0,2, 5,1,1,0, 5,2,2,0}},
+    {"behind a comment", "2 3", {0,0,0,3, 1,1,0,2, 3,0,1,0, 5,1,1,0}},
+    {"behind the attribute of an inner element", "2 4", {0,0,0,4, 1,1,0,3, 1,2,1,1, 5,1,2,0, 5,2,1,0}},
+    {"an element's size without it", "2 2", {0,0,0,2, 1,1,0,0, 5,1,1,0}},
+    {"the root's size without it", "2 0", {0,0,0,1, 1,1,0,1, 5,1,1,0}},
+    {"names 1, 2, 1", "2 4", {0,0,0,4, 1,1,0,3, 5,1,1,0, 5,2,1,0, 5,1,1,0}},
+    {"names 1, 1, 1", "2 3", {0,0,0,4, 1,1,0,3, 5,1,1,0, 5,1,1,0, 5,1,1,0}},
+};
+
+static void ask_tables(const struct side *side)
+{
+    for (size_t i = 0; i < sizeof tables / sizeof *tables; i++) {
+        const struct table *t = &tables[i];
+        char found[TEXT];
+        uint32_t answer[2];
+        answer[0] = side->check_table(t->table, 4 * rows_of(t->table, MOST_ROWS), &answer[1]);
+        spell_numbers(found, answer, 2);
+        hold(side, t->what, t->answer, found);
+    }
+}
+
+/* ---- axes ---- */
+
+/* a table and, for each of its nodes, what is on each axis, ascending */
+struct tree { uint32_t table[4 * MOST_ROWS]; const char *axes[MOST_ROWS][AXES]; };
+
+/* element 1 with attributes 2 and 3; in it element 4 with attribute 5 and text 6, comment 7, element 8 */
+static const struct tree nine = {
+    {0,0,0,8, 1,1,0,7, 5,1,1,0, 5,2,1,0, 1,2,1,2, 5,1,4,0, 2,0,4,0, 3,0,1,0, 1,1,1,0}, {
+    {"0", "1", "", "1 4 6 7 8", "", "0 1 4 6 7 8", "0", "", "", "", "", ""},
+    {"1", "4 7 8", "0", "4 6 7 8", "0", "1 4 6 7 8", "0 1", "", "", "", "", "2 3"},
+    {"2", "", "1", "", "0 1", "2", "0 1 2", "4 6 7 8", "", "", "", ""},
+    {"3", "", "1", "", "0 1", "3", "0 1 3", "4 6 7 8", "", "", "", ""},
+    {"4", "6", "1", "6", "0 1", "4 6", "0 1 4", "7 8", "", "7 8", "", "5"},
+    {"5", "", "4", "", "0 1 4", "5", "0 1 4 5", "6 7 8", "", "", "", ""},
+    {"6", "", "4", "", "0 1 4", "6", "0 1 4 6", "7 8", "", "", "", ""},
+    {"7", "", "1", "", "0 1", "7", "0 1 7", "8", "4 6", "8", "4", ""},
+    {"8", "", "1", "", "0 1", "8", "0 1 8", "", "4 6 7", "", "4 7", ""},
+}};
+
+/* comment 1; element 2 with attributes 3 and 4, in it text 5, element 6 with attribute 7 and comment 8, text 9;
+ * instruction 10 */
+static const struct tree eleven = {
+    {0,0,0,10, 3,0,0,0, 1,1,0,7, 5,1,2,0, 5,2,2,0, 2,0,2,0, 1,2,2,2, 5,1,6,0, 3,0,6,0, 2,0,2,0, 4,9,0,0}, {
+    {"0", "1 2 10", "", "1 2 5 6 8 9 10", "", "0 1 2 5 6 8 9 10", "0", "", "", "", "", ""},
+    {"1", "", "0", "", "0", "1", "0 1", "2 5 6 8 9 10", "", "2 10", "", ""},
+    {"2", "5 6 9", "0", "5 6 8 9", "0", "2 5 6 8 9", "0 2", "10", "1", "10", "1", "3 4"},
+    {"3", "", "2", "", "0 2", "3", "0 2 3", "5 6 8 9 10", "1", "", "", ""},
+    {"4", "", "2", "", "0 2", "4", "0 2 4", "5 6 8 9 10", "1", "", "", ""},
+    {"5", "", "2", "", "0 2", "5", "0 2 5", "6 8 9 10", "1", "6 9", "", ""},
+    {"6", "8", "2", "8", "0 2", "6 8", "0 2 6", "9 10", "1 5", "9", "5", "7"},
+    {"7", "", "6", "", "0 2 6", "7", "0 2 6 7", "8 9 10", "1 5", "", "", ""},
+    {"8", "", "6", "", "0 2 6", "8", "0 2 6 8", "9 10", "1 5", "", "", ""},
+    {"9", "", "2", "", "0 2", "9", "0 2 9", "10", "1 5 6 8", "", "5 6", ""},
+    {"10", "", "0", "", "0", "10", "0 10", "", "1 2 5 6 8 9", "", "1 2", ""},
+}};
+
+/* whether positions run against document order: parent, ancestor, ancestor-or-self, preceding, preceding-sibling */
+static bool runs_back(uint32_t axis)
+{
+    return axis == 2 || axis == 4 || axis == 6 || axis == 8 || axis == 10;
+}
+
+/* the nodes of an axis by their places, turned round if the axis runs back */
+static void spell_places(char *to, const struct side *side, const uint32_t *table, uint32_t rows, uint32_t axis,
+                         uint32_t x)
+{
+    uint32_t by_place[MOST_ROWS + 1], ascending[MOST_ROWS], count = 0;
+    memset(by_place, 0xFF, sizeof by_place);
+    for (uint32_t y = 0; y < rows; y++) {
+        uint32_t place = side->axis_place(table, 4 * (size_t)rows, axis, x, y);
+        by_place[place <= MOST_ROWS ? place : 0] = y;
+        count += place != 0;
+    }
+    for (uint32_t i = 0; i < count; i++)
+        ascending[i] = by_place[runs_back(axis) ? count - i : i + 1];
+    spell_numbers(to, ascending, count);
+}
+
+/* asks for all nodes on each axis of each node, by their places and by a path of one step */
+static void ask_axes(const struct side *side, const struct tree *tree)
+{
+    uint32_t rows = (uint32_t)rows_of(tree->table, MOST_ROWS);
+    for (uint32_t i = 0; i < rows * AXES; i++) {
+        uint32_t x = i / AXES, axis = i % AXES, out[OUT_ROOM], place;
+        uint32_t path[] = {24, 0, 0, axis, 0, 22, 1, 0, 0, 0};
+        char what[TEXT], found[TEXT];
+        snprintf(what, sizeof what, "%u rows, axis %u of %u", rows, axis, x);
+        spell_places(found, side, tree->table, rows, axis, x);
+        hold(side, what, tree->axes[x][axis], found);
+        uint32_t number = side->evaluate(tree->table, 4 * (size_t)rows, path, 10, literals, LITERALS, x,
+                                         out, MOST_ROWS, &place);
+        spell_answer(found, number, place, out, 1);
+        hold(side, what, tree->axes[x][axis], found);
+    }
+}
+
+/* ---- runs on the nine rows ---- */
+
+/* rows of paths: a step behind others or alone, a predicate that is literal n, and the whole path */
+#define STEP(previous, predicate, axis, test) 24, previous, predicate, axis, test
+#define LITERAL(n) 1, n, 0, 0, 0
+#define PREDICATE(value) 25, 0, value, 0, 0
+#define EXISTS(path) 20, path, 0, 0, 0
+#define RELATIVE(step) 22, step, 0, 0, 0
+#define ABSOLUTE(step) 23, step, 0, 0, 0
+#define ALONE(axis, test) {STEP(0, 0, axis, test), RELATIVE(1)}
+#define NUMBERED(axis, test, n) {LITERAL(n), PREDICATE(1), STEP(0, 2, axis, test), RELATIVE(3)}
+
+static size_t path_length(const uint32_t *path)
+{
+    size_t rows = 0;
+    while (rows < PATH_ROWS && path[5 * rows] != 0)
+        rows++;
+    return 5 * rows;
+}
+
+struct run { const char *what; uint32_t start; const char *answer; uint32_t path[5 * PATH_ROWS]; };
+
+static const struct run runs[] = {
+    {"attribute::node()", 1, "2 3", ALONE(11, 0)},
+    {"attribute::*", 1, "2 3", ALONE(11, 1)},
+    {"attribute::text()", 1, "", ALONE(11, 2)},
+    {"attribute::comment()", 1, "", ALONE(11, 3)},
+    {"attribute::processing-instruction()", 1, "", ALONE(11, 4)},
+    {"attribute::1", 1, "2", ALONE(11, 17)},
+    {"attribute::2", 1, "3", ALONE(11, 18)},
+    {"attribute::3", 1, "", ALONE(11, 19)},
+    {"attribute::*[2]", 1, "3", NUMBERED(11, 1, 2)},
+    {"attribute::2[1]", 1, "3", NUMBERED(11, 18, 1)},
+    {"child::node()[1]", 1, "4", NUMBERED(1, 0, 1)},
+    {"self::node() of an attribute", 2, "2", ALONE(0, 0)},
+    {"self::* of an attribute", 2, "", ALONE(0, 1)},
+    {"self::1 of an attribute", 2, "", ALONE(0, 17)},
+    {"ancestor-or-self::* of an attribute", 2, "1", ALONE(6, 1)},
+    {"parent::* of an attribute", 2, "1", ALONE(2, 1)},
+    {"attribute::* of an attribute", 2, "", ALONE(11, 1)},
+    {"following::node()[1] of an attribute", 2, "4", NUMBERED(7, 0, 1)},
+    {"descendant::1", 0, "1 8", ALONE(3, 17)},
+    {"descendant::*/attribute::*", 0, "2 3 5", {STEP(0, 0, 3, 1), STEP(1, 0, 11, 1), RELATIVE(2)}},
+    {"descendant::*[attribute::1]", 0, "1 4",
+     {STEP(0, 0, 11, 17), RELATIVE(1), EXISTS(2), PREDICATE(3), STEP(0, 4, 3, 1), RELATIVE(5)}},
+    {"parent::1 of an attribute", 2, "1", ALONE(2, 17)},
+    {"self::1/child::node(), that path turned", 1, "4 7 8", {STEP(0, 0, 0, 17), STEP(1, 0, 1, 0), RELATIVE(2)}},
+    {"an axis too many", 1, "refused with 5, place 0", ALONE(12, 0)},
+};
+
+static void ask_runs(const struct side *side)
+{
+    for (size_t i = 0; i < sizeof runs / sizeof *runs; i++) {
+        const struct run *r = &runs[i];
+        char found[TEXT];
+        uint32_t out[OUT_ROOM], place;
+        uint32_t number = side->evaluate(nine.table, 4 * rows_of(nine.table, MOST_ROWS),
+                                         r->path, path_length(r->path), literals, LITERALS,
+                                         r->start, out, MOST_ROWS, &place);
+        spell_answer(found, number, place, out, 1);
+        hold(side, r->what, r->answer, found);
+    }
+}
+
+/* the part of a list below a node, attributes included */
+static void ask_view(const struct side *side, uint32_t node, const char *answer)
+{
+    static const uint32_t list[] = {0, 2, 3, 5, 6, 8};
+    size_t begin, count;
+    char found[TEXT];
+    side->view(nine.table, 4 * rows_of(nine.table, MOST_ROWS), list, 6, node, &begin, &count);
+    spell_numbers(found, list + (count > 0 ? begin : 0), count);
+    hold(side, "a view", answer, found);
+}
+
+/* ---- turning ---- */
+
+struct turning { const char *what; size_t room; const char *answer; uint32_t path[5 * PATH_ROWS]; };
+
+static const struct turning turnings[] = {
+    {"attribute::2", OUT_ROOM, "refused with 13, place 1", ALONE(11, 18)},
+    {"attribute::2 without room", 0, "refused with 13, place 1", ALONE(11, 18)},
+    {"attribute::2[1]", OUT_ROOM, "refused with 9, place 1", NUMBERED(11, 18, 1)},
+    {"/attribute::2", OUT_ROOM, "refused with 13, place 1", {STEP(0, 0, 11, 18), ABSOLUTE(1)}},
+    {"/child::2", OUT_ROOM, "refused with 10, place 0", {STEP(0, 0, 1, 18), ABSOLUTE(1)}},
+    {"child::2 without room", 0, "refused with 11, place 3", ALONE(1, 18)},
+    {"attribute::2/child::1[1]", OUT_ROOM, "refused with 9, place 2",
+     {STEP(0, 0, 11, 18), LITERAL(1), PREDICATE(2), STEP(1, 3, 1, 17), RELATIVE(4)}},
+    {"self::node()/attribute::*/parent::*/attribute::*", OUT_ROOM, "refused with 13, place 2",
+     {STEP(0, 0, 0, 0), STEP(1, 0, 11, 1), STEP(2, 0, 2, 1), STEP(3, 0, 11, 1), RELATIVE(4)}},
+    {"an axis too many", OUT_ROOM, "refused with 5, place 0", ALONE(12, 0)},
+    {"parent::1", OUT_ROOM, "24 0 0 0 17 24 1 0 1 0 22 2 0 0 0", ALONE(2, 17)},
+    {"child::1[attribute::*[1]]", OUT_ROOM,
+     "1 1 0 0 0 25 0 1 0 0 24 0 2 11 1 22 3 0 0 0 20 4 0 0 0 25 0 5 0 0 24 0 6 0 17 24 7 0 2 0 22 8 0 0 0",
+     {LITERAL(1), PREDICATE(1), STEP(0, 2, 11, 1), RELATIVE(3), EXISTS(4), PREDICATE(5),
+      STEP(0, 6, 1, 17), RELATIVE(7)}},
+};
+
+static void ask_turnings(const struct side *side)
+{
+    for (size_t i = 0; i < sizeof turnings / sizeof *turnings; i++) {
+        const struct turning *t = &turnings[i];
+        char found[TEXT];
+        uint32_t out[OUT_ROOM], place;
+        uint32_t number = side->turn(t->path, path_length(t->path), literals, LITERALS, out, t->room, &place);
+        spell_answer(found, number, place, out, 5);
+        hold(side, t->what, t->answer, found);
+    }
+}
+
+int fixed(void)
+{
+    for (size_t i = 0; i < sizeof sides / sizeof *sides; i++) {
+        ask_tables(&sides[i]);
+        ask_axes(&sides[i], &nine);
+        ask_axes(&sides[i], &eleven);
+        ask_runs(&sides[i]);
+        ask_view(&sides[i], 1, "2 3 5 6 8");
+        ask_view(&sides[i], 2, "2");
+        ask_view(&sides[i], 4, "5 6");
+        ask_turnings(&sides[i]);
+    }
+    printf("fixed: %d answers, %d different\n", answers, differences);
+    return differences != 0;
+}
