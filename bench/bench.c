@@ -30,10 +30,12 @@ static const double QUICK = 0.005;
 static const uint32_t sizes[SIZES] = {512, 1024, 2048, 4096};
 static const struct engine *const engines[ENGINES] = {&ours, &pugixml, &libxml2};
 
-/* A and B stand for two names of elements that the document has; long ones have a label */
+/* A and B stand for two names of elements that the document has, F for a floor and C for what stands beside one,
+ * elements or attributes; long ones have a label */
 static const struct query { const char *text, *label; } queries[] = {
     {"//A//B", NULL},
-    {"//limit[not(floor)]", NULL},
+    {"//limit[not(F)]", NULL},
+    {"//*[F]/C", NULL},
     {"//*/following::*/preceding::*", NULL},
     {"//*[count(child::*) > 2]", NULL},
     {"//*[position() mod 2 = 0]", NULL},
@@ -218,12 +220,24 @@ static bool same_answers(const char *query, struct cell cells[ENGINES][SIZES])
 
 /* ---- shapes and queries ---- */
 
-/* the query with A and B replaced by names that stand in the shape */
+/* what A, B, F or C stands for in a shape; nothing for any other letter */
+static const char *word_for(char letter, enum shape shape)
+{
+    static const char *const words[SHAPES][4] = {
+        [BALANCED] = {"a", "b", "floor", "limit"}, [DEEP] = {"a", "b", "floor", "limit"},
+        [WIDE] = {"a", "b", "floor", "limit"}, [PARAMETERS] = {"group", "floor", "floor", "ceiling"},
+        [ATTRIBUTES] = {"group", "unit", "@floor", "@ceiling"},
+    };
+    static const char letters[] = "ABFC";
+    const char *found = strchr(letters, letter);
+    return found ? words[shape][found - letters] : NULL;
+}
+
+/* the query with A, B, F and C replaced by names that stand in the shape */
 static void spell(const char *query, enum shape shape, char *to)
 {
     for (; *query; query++) {
-        const char *word = *query == 'A' ? (shape == PARAMETERS ? "group" : "a")
-                         : *query == 'B' ? (shape == PARAMETERS ? "floor" : "b") : NULL;
+        const char *word = word_for(*query, shape);
         if (word)
             to = stpcpy(to, word);
         else

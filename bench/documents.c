@@ -1,10 +1,11 @@
-/* documents.c: four shapes of documents.
+/* documents.c: five shapes of documents.
  *
  *   balanced    every element has four children, as far as rows reach
  *   deep        a comb: each level holds one leaf and the next level
  *   wide        one element that holds all the others
  *   parameters  a set of groups of limits; a limit holds a unit with text, a
  *               floor (two limits of three) and a ceiling
+ *   attributes  the same, but floor and ceiling are attributes of the limit
  *
  * In the first three, names a, b, c, limit and floor are spread by a fixed
  * pseudo-random sequence.
@@ -13,11 +14,12 @@
 
 #include "rows.h"
 
+#include <stdbool.h>
 #include <stdio.h>
 #include <stdlib.h>
 #include <string.h>
 
-const char *const shape_names[SHAPES] = {"balanced", "deep", "wide", "parameters"};
+const char *const shape_names[SHAPES] = {"balanced", "deep", "wide", "parameters", "attributes"};
 
 enum { A = 1, LIMIT = 4, FLOOR, SET, GROUP, CEILING, UNIT };
 
@@ -68,23 +70,33 @@ static void wide(struct builder *b)
         add(b, 1, some_name(b), top);
 }
 
-static void limit(struct builder *b, uint32_t group, uint32_t number)
+/* floor and ceiling of a limit, as elements or as attributes */
+static void bounds(struct builder *b, uint32_t kind, uint32_t node, uint32_t number)
 {
-    uint32_t node = add(b, 1, LIMIT, group);
-    uint32_t unit = add(b, 1, UNIT, node);
-    add(b, 2, 0, unit);
     if (number % 3 != 0)
-        add(b, 1, FLOOR, node);
-    add(b, 1, CEILING, node);
+        add(b, kind, FLOOR, node);
+    add(b, kind, CEILING, node);
 }
 
-static void parameters(struct builder *b)
+static void limit(struct builder *b, uint32_t kind, uint32_t group, uint32_t number)
+{
+    uint32_t node = add(b, 1, LIMIT, group);
+    if (kind == 5)
+        bounds(b, kind, node, number);
+    uint32_t unit = add(b, 1, UNIT, node);
+    add(b, 2, 0, unit);
+    if (kind == 1)
+        bounds(b, kind, node, number);
+}
+
+/* parameters whose bounds are rows of that kind */
+static void parameters(struct builder *b, uint32_t kind)
 {
     uint32_t set = add(b, 1, SET, 0), number = 0;
     while (b->used < b->rows) {
         uint32_t group = add(b, 1, GROUP, set);
         for (int i = 0; i < 12 && b->used < b->rows; i++)
-            limit(b, group, number++);
+            limit(b, kind, group, number++);
     }
 }
 
@@ -96,18 +108,26 @@ void build_table(enum shape shape, uint32_t rows, uint32_t *table)
     case BALANCED: balanced(&builder, 0, rows - 1); break;
     case DEEP: deep(&builder); break;
     case WIDE: wide(&builder); break;
-    default: parameters(&builder); break;
+    case PARAMETERS: parameters(&builder, 1); break;
+    default: parameters(&builder, 5); break;
     }
     for (uint32_t i = rows - 1; i > 0; i--)
         table[4 * table[4 * i + 2] + 3] += 1 + table[4 * i + 3];
 }
 
-/* writes the start of row i and gives back the text behind it */
+/* writes the start of row i and gives back the text behind it; the start of an element is open for attributes
+ * until what comes behind them closes it */
 static char *write_start(const uint32_t *row, char *to)
 {
     if (row[0] == 2)
         return to + sprintf(to, "kg");
-    return to + sprintf(to, row[3] == 0 ? "<%s/>" : "<%s>", element_names[row[1] - 1]);
+    return to + sprintf(to, row[0] == 5 ? " %s=\"1\"" : "<%s", node_names[row[1] - 1]);
+}
+
+/* whether row i is the last of an element's start: the next row is no attribute */
+static bool ends_start(const uint32_t *table, uint32_t rows, uint32_t i)
+{
+    return table[4 * i] != 2 && (i + 1 == rows || table[4 * i + 4] != 5);
 }
 
 char *xml_of_table(const uint32_t *table, uint32_t rows)
@@ -115,12 +135,12 @@ char *xml_of_table(const uint32_t *table, uint32_t rows)
     char *text = calloc(rows, 24), *to = text;
     for (uint32_t i = 1; i < rows; i++) {
         to = write_start(table + 4 * i, to);
+        if (ends_start(table, rows, i))
+            to += sprintf(to, ">");
         /* close every element whose subtree ends with row i */
-        for (uint32_t j = table[4 * i + 3] == 0 ? table[4 * i + 2] : 0; j != 0; j = table[4 * j + 2]) {
-            if (j + table[4 * j + 3] != i)
-                break;
-            to += sprintf(to, "</%s>", element_names[table[4 * j + 1] - 1]);
-        }
+        for (uint32_t j = i; j != 0 && j + table[4 * j + 3] == i; j = table[4 * j + 2])
+            if (table[4 * j] == 1)
+                to += sprintf(to, "</%s>", node_names[table[4 * j + 1] - 1]);
     }
     return text;
 }

@@ -5,7 +5,7 @@
 #include <stddef.h>
 #include <stdint.h>
 
-enum shape { BALANCED, DEEP, WIDE, PARAMETERS, SHAPES };
+enum shape { BALANCED, DEEP, WIDE, PARAMETERS, ATTRIBUTES, SHAPES };
 
 extern const char *const shape_names[SHAPES];
 

@@ -48,13 +48,15 @@ size_t pugi_run(void *opened)
     return state->query.evaluate_node_set(state->document).size();
 }
 
-// numbers the nodes of a document in document order, without recursion
+// numbers the nodes of a document in document order, attributes behind their element, without recursion
 std::unordered_map<const void *, uint32_t> pugi_places(const pugi::xml_document &document)
 {
     std::unordered_map<const void *, uint32_t> places;
     pugi::xml_node node = document;
     while (node) {
         places.emplace(node.internal_object(), static_cast<uint32_t>(places.size()));
+        for (pugi::xml_attribute attribute : node.attributes())
+            places.emplace(attribute.internal_object(), static_cast<uint32_t>(places.size()));
         if (node.first_child()) {
             node = node.first_child();
             continue;
@@ -66,13 +68,21 @@ std::unordered_map<const void *, uint32_t> pugi_places(const pugi::xml_document 
     return places;
 }
 
+// what tells a selected node, which may be an attribute, from all others
+const void *pugi_identity(const pugi::xpath_node &found)
+{
+    if (found.attribute())
+        return found.attribute().internal_object();
+    return found.node().internal_object();
+}
+
 size_t pugi_nodes(void *opened, uint32_t *out)
 {
     auto *state = static_cast<PugiState *>(opened);
     auto places = pugi_places(state->document);
     size_t count = 0;
     for (const auto &found : state->query.evaluate_node_set(state->document))
-        out[count++] = places.at(found.node().internal_object());
+        out[count++] = places.at(pugi_identity(found));
     std::sort(out, out + count);
     return count;
 }
@@ -117,13 +127,15 @@ size_t xml_run(void *opened)
     return count;
 }
 
-// the place of each node, kept in a map of pointers, without recursion
+// the place of each node, attributes behind their element, kept in a map of pointers, without recursion
 std::unordered_map<const void *, uint32_t> xml_places(xmlDocPtr document)
 {
     std::unordered_map<const void *, uint32_t> places;
     xmlNodePtr top = reinterpret_cast<xmlNodePtr>(document), node = top;
     while (node) {
         places.emplace(node, static_cast<uint32_t>(places.size()));
+        for (xmlAttrPtr a = node->type == XML_ELEMENT_NODE ? node->properties : nullptr; a; a = a->next)
+            places.emplace(a, static_cast<uint32_t>(places.size()));
         if (node->children) {
             node = node->children;
             continue;

@@ -9,7 +9,7 @@
 #include <stdlib.h>
 #include <string.h>
 
-const char *const element_names[] = {"a", "b", "c", "limit", "floor", "set", "group", "ceiling", "unit", NULL};
+const char *const node_names[] = {"a", "b", "c", "limit", "floor", "set", "group", "ceiling", "unit", NULL};
 
 enum sort { NUMBER, TRUTH, PATH };
 
@@ -70,12 +70,16 @@ static uint32_t as_number(struct reader *r, struct value v)
 
 static const char *const axis_names[] = {
     "self", "child", "parent", "descendant", "ancestor", "descendant-or-self", "ancestor-or-self",
-    "following", "preceding", "following-sibling", "preceding-sibling"
+    "following", "preceding", "following-sibling", "preceding-sibling", "attribute"
 };
+
+enum { AXES = sizeof axis_names / sizeof *axis_names, ATTRIBUTE_AXIS = AXES - 1 };
 
 static uint32_t read_axis(struct reader *r)
 {
-    for (uint32_t axis = 0; axis < 11; axis++) {
+    if (take(r, "@"))
+        return ATTRIBUTE_AXIS;
+    for (uint32_t axis = 0; axis < AXES; axis++) {
         const char *before = r->at;
         if (take(r, axis_names[axis]) && take(r, "::"))
             return axis;
@@ -86,8 +90,8 @@ static uint32_t read_axis(struct reader *r)
 
 static uint32_t read_name(struct reader *r)
 {
-    for (uint32_t k = 0; element_names[k]; k++)
-        if (take(r, element_names[k]))
+    for (uint32_t k = 0; node_names[k]; k++)
+        if (take(r, node_names[k]))
             return 16 + k + 1;
     if (!isalpha((unsigned char)*r->at))
         r->failed = true;

@@ -13,12 +13,12 @@ struct rows {
     size_t literals_len;
 };
 
-/* The names of elements; the number of a name is its index plus one. */
-extern const char *const element_names[];
+/* The names of elements and attributes; the number of a name is its index plus one. */
+extern const char *const node_names[];
 
-/* Fills rows from a location path of the fragment that document 01 has, with
- * the abbreviations // . .. and a bare name or *; false if it is not one.
- * A name that no element has gets a number that no element has. */
+/* Fills rows from a location path of the fragment that documents 01 and 02
+ * have, with the abbreviations // . .. @ and a bare name or *; false if it is
+ * not one. A name that no node has gets a number that no node has. */
 bool rows_from_text(const char *text, struct rows *rows);
 
 #endif
