@@ -430,15 +430,15 @@ static void run_many_attributes(void)
     }
 }
 
-/* from all nodes to their attributes, from there along an axis, and to the attributes of what is there */
-static void run_on_attributes(uint32_t axis)
+/* three steps from the root, each to all nodes of an axis */
+static void run_axes(const char *what, enum shape shape, uint32_t first, uint32_t second, uint32_t third)
 {
-    char what[64];
-    struct maker m = begin_with((enum shape)(axis % SHAPES), 0, 60);
-    uint32_t step = row(&m, 24, row(&m, 24, 0, 0, 5, 0), 0, 11, 0);
-    finish(&m, row(&m, 24, row(&m, 24, step, 0, axis, 0), 0, 11, 0));
-    snprintf(what, sizeof what, "attributes of all, axis %u, attributes there", axis);
-    run_case(what);
+    char text[64];
+    struct maker m = begin_with(shape, 0, 60);
+    uint32_t step = row(&m, 24, row(&m, 24, 0, 0, first, 0), 0, second, 0);
+    finish(&m, row(&m, 24, step, 0, third, 0));
+    snprintf(text, sizeof text, "%s, axes %u, %u, %u", what, first, second, third);
+    run_case(text);
 }
 
 static void run_attributes(void)
@@ -455,8 +455,12 @@ static void run_attributes(void)
     m = begin_with(BUSHY, 4000, 60);
     nested_attributes(&m);
     run_case("existence nested 8 deep, attribute and parent");
-    for (uint32_t axis = 0; axis <= 11; axis++)
-        run_on_attributes(axis);
+    for (uint32_t axis = 0; axis <= 11; axis++) {
+        enum shape shape = (enum shape)(axis % SHAPES);
+        run_axes("from all attributes", shape, 3, 11, axis);
+        run_axes("from all children of all nodes", shape, 5, 1, axis);
+        run_axes("attributes of what is there", shape, 3, axis, 11);
+    }
 }
 
 /* ---- table files ---- */
