@@ -114,9 +114,9 @@ module _ (t : List ℕ) (r : ℕ → ℕ → Bool) (from : List Bool) (y : ℕ) 
   hit-own false low = refl
 
 -- what r and s say alike
-pub hits-alike : (t : List ℕ) (r s : ℕ → ℕ → Bool) (from to : List Bool) → ((x y : ℕ) → r x y ≡ s x y) → Hits t r from to → Hits t s from to
+pub hits-alike : (t : List ℕ) (r s : ℕ → ℕ → Bool) (from to : List Bool) → Hits t r from to → ((x y : ℕ) → r x y ≡ s x y) → Hits t s from to
 unfolding Hits hit
-hits-alike t r s from to e h y l = h y l ∙ some-same _ _ (upTo (rows t)) (λ x. rw (e x y))
+hits-alike t r s from to h e y l = h y l ∙ some-same _ _ (upTo (rows t)) (λ x. rw (e x y))
 
 -- all rows, all but attributes, attributes alone
 pub admits-all : (t : List ℕ) (i : ℕ) → admitted t true true i ≡ true
@@ -277,7 +277,7 @@ self-hits t marks y low = sym (some-at (λ x. getD marks x false) (rows t) y low
 -- and is reached by itself
 pub self-hits-back : (t : List ℕ) (marks : List Bool) → Hits t (λ y x. on t A.self x y) marks marks
 unfolding on
-self-hits-back t marks = hits-alike t (on t A.self) (λ y x. on t A.self x y) marks marks (λ x y. eqb-sym x y) (self-hits t marks)
+self-hits-back t marks = hits-alike t (on t A.self) (λ y x. on t A.self x y) marks marks (self-hits t marks) (λ x y. eqb-sym x y)
 
 -- ---- the parents, which are the flags themselves: a row's flag stands where its mark was
 

@@ -227,12 +227,14 @@ pub fn turn(path: &[u32], literals: &[f64], out: &mut [u32]) -> Answer
     }
     let rows = row_count(path);
     let steps = steps_of(path, first_link(path, rows - 1));
+    let first = steps.counting;
+    let attribute = steps.attribute;
     let op = field_at(path, rows - 1, 0);
-    if 0 < steps.counting {
-        return given(9, steps.counting);
+    if 0 < first {
+        return given(9, first);
     }
-    if 0 < steps.attribute {
-        return given(13, steps.attribute);
+    if 0 < attribute {
+        return given(13, attribute);
     }
     if op == ABSOLUTE {
         return given(10, 0);

@@ -43,26 +43,26 @@ field-at-requires c κs =
 
 given-requires : tie.Need-given-requires
 given-requires c κs =
-    let r = rows-there _ _ _ (c .before .before .before .before .before .before .before .before .check-path .ensures) (c .before .before .before .before .before .before .if1 .left) in
+    let r = rows-there _ _ _ (c .before .before .before .before .before .before .before .check-path .ensures) (c .before .before .before .before .before .if1 .left) in
     omega arith
 
 returns-2 : tie.Need-returns-2
 returns-2 c =
-    let f = c .before .before .before in
+    let f = c .before .before in
     refused _ _ _ _ _ _ (c .given .ensures)
     (step-counts _ _ _ (f .before .before .before .before .before .before .check-path .ensures) (f .before .before .before .before .if1 .left) _ _ _ _ _ _ (f .before .before .before .row-count .ensures) (f .before .before .first-link .ensures .0) (f .before .steps-of .ensures .0 .1) (f .before .steps-of .ensures .0 .2) (f .field-at .ensures .0) (c .before .if2 .taken))
     (omega arith)
 
 given-requires-2 : tie.Need-given-requires-2
 given-requires-2 c κs =
-    let r = rows-there _ _ _ (c .before .before .before .before .before .before .before .before .before .before .check-path .ensures) (c .before .before .before .before .before .before .before .before .if1 .left) in
+    let r = rows-there _ _ _ (c .before .before .before .before .before .before .before .before .check-path .ensures) (c .before .before .before .before .before .before .if1 .left) in
     omega arith
 
 returns-3 : tie.Need-returns-3
 returns-3 c =
-    let f = c .before .before .before .before .before in
+    let f = c .before .before .before in
     refused _ _ _ _ _ _ (c .given2 .ensures)
-    (step-of-attributes _ _ _ (f .before .before .before .before .before .before .check-path .ensures) (f .before .before .before .before .if1 .left) _ _ _ _ _ _ (f .before .before .before .row-count .ensures) (f .before .before .first-link .ensures .0) (f .before .steps-of .ensures .0 .1) (f .before .steps-of .ensures .0 .2) (f .field-at .ensures .0) (c .before .before .before .if2 .left) (c .before .if3 .taken))
+    (step-of-attributes _ _ _ (f .before .before .before .before .before .before .check-path .ensures) (f .before .before .before .before .if1 .left) _ _ _ _ _ _ (f .before .before .before .row-count .ensures) (f .before .before .first-link .ensures .0) (f .before .steps-of .ensures .0 .1) (f .before .steps-of .ensures .0 .2) (f .field-at .ensures .0) (c .before .before .if2 .left) (c .before .if3 .taken))
     (omega arith)
 
 given-requires-3 : tie.Need-given-requires-3
@@ -70,9 +70,9 @@ given-requires-3 c κs = search needs
 
 returns-4 : tie.Need-returns-4
 returns-4 c =
-    let f = c .before .before .before .before .before .before in
+    let f = c .before .before .before .before in
     refused _ _ _ _ _ _ (c .given3 .ensures)
-    (is-absolute _ _ _ (f .before .before .before .before .before .before .check-path .ensures) (f .before .before .before .before .if1 .left) _ _ _ _ _ _ (f .before .before .before .row-count .ensures) (f .before .before .first-link .ensures .0) (f .before .steps-of .ensures .0 .1) (f .before .steps-of .ensures .0 .2) (f .field-at .ensures .0) (c .before .before .before .before .if2 .left) (c .before .before .if3 .left) (c .before .if4 .taken))
+    (is-absolute _ _ _ (f .before .before .before .before .before .before .check-path .ensures) (f .before .before .before .before .if1 .left) _ _ _ _ _ _ (f .before .before .before .row-count .ensures) (f .before .before .first-link .ensures .0) (f .before .steps-of .ensures .0 .1) (f .before .steps-of .ensures .0 .2) (f .field-at .ensures .0) (c .before .before .before .if2 .left) (c .before .before .if3 .left) (c .before .if4 .taken))
     (omega arith)
 
 add-below : tie.Need-add-below
@@ -98,33 +98,33 @@ add-given c = search needs
 
 given-requires-4 : tie.Need-given-requires-4
 given-requires-4 c κs =
-    let r = rows-there _ _ _ (c .before .before .before .before .before .before .before .before .before .before .before .before .before .before .before .check-path .ensures) (c .before .before .before .before .before .before .before .before .before .before .before .before .before .if1 .left) in
+    let r = rows-there _ _ _ (c .before .before .before .before .before .before .before .before .before .before .before .before .before .check-path .ensures) (c .before .before .before .before .before .before .before .before .before .before .before .if1 .left) in
     omega arith
 
 returns-5 : tie.Need-returns-5
 returns-5 c =
-    let f = c .before .before .before .before .before .before .before .before .before .before in
+    let f = c .before .before .before .before .before .before .before .before in
     let e = c .before .before in
     refused _ _ _ _ _ _ (c .given4 .ensures)
-    (no-room _ _ _ (f .before .before .before .before .before .before .check-path .ensures) (f .before .before .before .before .if1 .left) _ _ _ _ _ _ (f .before .before .before .row-count .ensures) (f .before .before .first-link .ensures .0) (f .before .steps-of .ensures .0 .1) (f .before .steps-of .ensures .0 .2) (f .field-at .ensures .0) (e .before .before .before .before .before .before .if2 .left) (e .before .before .before .before .if3 .left)
+    (no-room _ _ _ (f .before .before .before .before .before .before .check-path .ensures) (f .before .before .before .before .if1 .left) _ _ _ _ _ _ (f .before .before .before .row-count .ensures) (f .before .before .first-link .ensures .0) (f .before .steps-of .ensures .0 .1) (f .before .steps-of .ensures .0 .2) (f .field-at .ensures .0) (e .before .before .before .before .before .if2 .left) (e .before .before .before .before .if3 .left)
     (e .before .before .before .if4 .left) _ _ _ (e .before .before .below .ensures) (e .before .below2 .ensures) (e .either .ensures) (c .before .if5 .taken))
     (omega arith)
 
 write-turned-requires : tie.Need-write-turned-requires
 write-turned-requires c κs =
-    let f = c .before .before .before .before .before .before .before .before .before .before in
+    let f = c .before .before .before .before .before .before .before .before in
     let e = c .before .before in
-    is-turnable _ _ _ (f .before .before .before .before .before .before .check-path .ensures) (f .before .before .before .before .if1 .left) _ _ _ _ _ _ (f .before .before .before .row-count .ensures) (f .before .before .first-link .ensures .0) (f .before .steps-of .ensures .0 .1) (f .before .steps-of .ensures .0 .2) (f .field-at .ensures .0) (e .before .before .before .before .before .before .if2 .left) (e .before .before .before .before .if3 .left)
+    is-turnable _ _ _ (f .before .before .before .before .before .before .check-path .ensures) (f .before .before .before .before .if1 .left) _ _ _ _ _ _ (f .before .before .before .row-count .ensures) (f .before .before .first-link .ensures .0) (f .before .steps-of .ensures .0 .1) (f .before .steps-of .ensures .0 .2) (f .field-at .ensures .0) (e .before .before .before .before .before .if2 .left) (e .before .before .before .before .if3 .left)
     (e .before .before .before .if4 .left) _ _ _ (e .before .before .below .ensures) (e .before .below2 .ensures) (e .either .ensures) _ refl (c .before .if5 .left)
 
 add-given-2 : tie.Need-add-given-2
 add-given-2 c =
-    let r = rows-there _ _ _ (c .before .before .before .before .before .before .before .before .before .before .before .before .before .before .before .before .before .before .before .check-path .ensures) (c .before .before .before .before .before .before .before .before .before .before .before .before .before .before .before .before .before .if1 .left) in
+    let r = rows-there _ _ _ (c .before .before .before .before .before .before .before .before .before .before .before .before .before .before .before .before .before .check-path .ensures) (c .before .before .before .before .before .before .before .before .before .before .before .before .before .before .before .if1 .left) in
     search needs
 
 given-requires-5 : tie.Need-given-requires-5
 given-requires-5 c κs =
-    let r = rows-there _ _ _ (c .before .before .before .before .before .before .before .before .before .before .before .before .before .before .before .before .before .before .before .check-path .ensures) (c .before .before .before .before .before .before .before .before .before .before .before .before .before .before .before .before .before .if1 .left) in
+    let r = rows-there _ _ _ (c .before .before .before .before .before .before .before .before .before .before .before .before .before .before .before .before .before .check-path .ensures) (c .before .before .before .before .before .before .before .before .before .before .before .before .before .before .before .if1 .left) in
     omega arith
 
 same-length : tie.Need-same-length
@@ -132,10 +132,10 @@ same-length c = search needs
 
 returns-6 : tie.Need-returns-6
 returns-6 c =
-    let f = c .before .before .before .before .before .before .before .before .before .before .before .before .before .before in
+    let f = c .before .before .before .before .before .before .before .before .before .before .before .before in
     let e = c .before .before .before .before .before .before in
     turned-round _ _ _ _ _ _ (c .given5 .ensures)
-    (is-turned _ _ _ (f .before .before .before .before .before .before .check-path .ensures) (f .before .before .before .before .if1 .left) _ _ _ _ _ _ (f .before .before .before .row-count .ensures) (f .before .before .first-link .ensures .0) (f .before .steps-of .ensures .0 .1) (f .before .steps-of .ensures .0 .2) (f .field-at .ensures .0) (e .before .before .before .before .before .before .if2 .left) (e .before .before .before .before .if3 .left)
+    (is-turned _ _ _ (f .before .before .before .before .before .before .check-path .ensures) (f .before .before .before .before .if1 .left) _ _ _ _ _ _ (f .before .before .before .row-count .ensures) (f .before .before .first-link .ensures .0) (f .before .steps-of .ensures .0 .1) (f .before .steps-of .ensures .0 .2) (f .field-at .ensures .0) (e .before .before .before .before .before .if2 .left) (e .before .before .before .before .if3 .left)
     (e .before .before .before .if4 .left) _ _ _ (e .before .before .below .ensures) (e .before .below2 .ensures) (e .either .ensures) (c .before .before .before .before .before .if5 .left))
     (c .before .before .before .write-turned .ensures)
 
