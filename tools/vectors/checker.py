@@ -1,6 +1,6 @@
-# An independent checker, written from document 01 and document 02's W-206
-# alone: the number and the place of check_table, check_path, turn and the
-# refusals of evaluate, the turned rows, and the part the view hands back.
+# An independent checker, written from document 01 and document 02's W-206 and
+# W-209 alone: the number and the place of check_table, check_path, turn and
+# the refusals of evaluate, the turned rows, and the part the view hands back.
 #
 # Tables and paths are flat lists of whole numbers, literals are lists of
 # 64-bit patterns.
@@ -11,6 +11,10 @@ MAX_LITERALS = 64
 MAX_DEPTH = 8
 INFINITY_BITS = 0x7FF0000000000000
 MAX_NAME = 65535
+LAST_AXIS = 11
+
+ELEMENT, TEXT, COMMENT, INSTRUCTION, ATTRIBUTE = range(1, 6)
+ATTRIBUTE_AXIS = 11
 
 NUMBERS = set(range(1, 10)) | {21}
 TRUTHS = set(range(10, 21))
@@ -50,7 +54,7 @@ def table_row(table, i):
 
 def has_element(table):
     """Whether some row is of kind 1, whatever else is wrong with it."""
-    return 1 in table[0::4]
+    return ELEMENT in table[0::4]
 
 
 def root_sound(table, rows):
@@ -58,13 +62,13 @@ def root_sound(table, rows):
 
 
 def kind_sound(kind, name, size):
-    if kind in (1, 4):
+    if kind in (ELEMENT, INSTRUCTION, ATTRIBUTE):
         named = 1 <= name <= MAX_NAME
-    elif kind in (2, 3):
+    elif kind in (TEXT, COMMENT):
         named = name == 0
     else:
         return False
-    return named and (kind == 1 or size == 0)
+    return named and (kind == ELEMENT or size == 0)
 
 
 def parent_sound(table, i, parent, size):
@@ -76,9 +80,10 @@ def parent_sound(table, i, parent, size):
 
 
 def previous_sibling(table, i):
-    """The nearest lower row with the same parent, or None; never row 0."""
+    """The nearest lower row with the same parent, or None; never row 0 or an
+    attribute."""
     for j in range(i - 1, 0, -1):
-        if table[4 * j + 2] == table[4 * i + 2]:
+        if table[4 * j + 2] == table[4 * i + 2] and table[4 * j] != ATTRIBUTE:
             return j
     return None
 
@@ -86,20 +91,38 @@ def previous_sibling(table, i):
 def text_sound(table, i, parent):
     """No child of the root, and not behind a text."""
     before = previous_sibling(table, i)
-    return parent != 0 and (before is None or table[4 * before] != 2)
+    return parent != 0 and (before is None or table[4 * before] != TEXT)
 
 
 def element_sound(table, i, parent):
     """No child of the root behind another element child of it."""
     if parent != 0:
         return True
-    return not any(table[4 * j] == 1 and table[4 * j + 2] == 0 for j in range(1, i))
+    return not any(table[4 * j] == ELEMENT and table[4 * j + 2] == 0 for j in range(1, i))
 
 
 def document_sound(table, i, kind, parent):
-    if kind == 1:
+    if kind == ELEMENT:
         return element_sound(table, i, parent)
-    return kind != 2 or text_sound(table, i, parent)
+    return kind != TEXT or text_sound(table, i, parent)
+
+
+def attribute_stands(table, i, parent):
+    """Straight behind its element or behind another attribute of it."""
+    kind, _, above, _ = table_row(table, i - 1)
+    return (kind == ELEMENT and parent == i - 1) or (kind == ATTRIBUTE and parent == above)
+
+
+def attribute_repeated(table, i, parent):
+    """A lower attribute of the same parent, whose rows stand behind it, has its name."""
+    same = [ATTRIBUTE, table[4 * i + 1], parent]
+    return any(table[4 * j:4 * j + 3] == same for j in range(parent + 1, i))
+
+
+def attribute_sound(table, i, kind, parent):
+    if kind != ATTRIBUTE:
+        return True
+    return attribute_stands(table, i, parent) and not attribute_repeated(table, i, parent)
 
 
 def row_sound(table, i, rows):
@@ -108,7 +131,7 @@ def row_sound(table, i, rows):
     kind, name, parent, size = table_row(table, i)
     if not kind_sound(kind, name, size) or not parent_sound(table, i, parent, size):
         return False
-    return document_sound(table, i, kind, parent)
+    return document_sound(table, i, kind, parent) and attribute_sound(table, i, kind, parent)
 
 
 def check_table(table):
@@ -155,7 +178,7 @@ def field_sound(rows, r, what, value, literal_count):
     if what == "literal":
         return value < literal_count
     if what == "axis":
-        return value <= 10
+        return value <= LAST_AXIS
     if what == "test":
         return test_allowed(value)
     sorts, may_miss = what
@@ -303,6 +326,9 @@ def turn(path, literals, room):
     for i, s in enumerate(steps):
         if step_counts(rows, s):
             return 9, i + 1, []
+    for i, s in enumerate(steps):
+        if rows[s][3] == ATTRIBUTE_AXIS:
+            return 13, i + 1, []
     if rows[-1][0] == 23:
         return 10, 0, []
     needed = len(rows) + 1

@@ -20,11 +20,17 @@ static void remember(xmlNodePtr n) {
     nodes[node_count++] = n;
 }
 
+/* An attribute is a node of its own sort, with the same first fields. */
+static void remember_attributes(xmlNodePtr n) {
+    for (xmlAttrPtr a = n->properties; a; a = a->next) remember((xmlNodePtr)a);
+}
+
 static void number_nodes(void) {
     node_count = 0;
     xmlNodePtr n = (xmlNodePtr)document;
     while (n) {
         remember(n);
+        if (n->type == XML_ELEMENT_NODE) remember_attributes(n);
         if (n->children) { n = n->children; continue; }
         while (n && !n->next) n = n->parent;
         if (n) n = n->next;

@@ -1,5 +1,6 @@
 // Answers XPath questions with pugixml. Nodes are numbered in document order,
-// the document node is 0. Read from standard input:
+// the document node is 0, and an element's attributes stand behind it. Read from
+// standard input:
 //   doc <bytes>      then that many bytes of XML text and a newline
 //   eval <start> <xpath>
 //   number <xpath>
@@ -18,16 +19,26 @@
 #include <vector>
 
 static std::unique_ptr<pugi::xml_document> document;
-static std::vector<pugi::xml_node> nodes;
-static std::unordered_map<pugi::xml_node_struct*, uint32_t> numbers;
+static std::vector<pugi::xpath_node> nodes;
+static std::unordered_map<const void*, uint32_t> numbers;
+
+static const void* object_of(const pugi::xpath_node& n) {
+    if (n.attribute()) return n.attribute().internal_object();
+    return n.node().internal_object();
+}
+
+static void remember(const pugi::xpath_node& n) {
+    numbers[object_of(n)] = nodes.size();
+    nodes.push_back(n);
+}
 
 static void number_nodes() {
     nodes.clear();
     numbers.clear();
     pugi::xml_node n = *document;
     while (n) {
-        numbers[n.internal_object()] = nodes.size();
-        nodes.push_back(n);
+        remember(n);
+        for (pugi::xml_attribute a : n.attributes()) remember(pugi::xpath_node(a, n));
         if (n.first_child()) { n = n.first_child(); continue; }
         while (n && !n.next_sibling()) n = n.parent();
         if (n) n = n.next_sibling();
@@ -50,9 +61,9 @@ static void read_document(size_t bytes) {
 static void answer_eval(size_t start, const std::string& text) {
     try {
         pugi::xpath_query query(text.c_str());
-        pugi::xpath_node_set set = query.evaluate_node_set(pugi::xpath_node(nodes[start]));
+        pugi::xpath_node_set set = query.evaluate_node_set(nodes[start]);
         std::vector<uint32_t> out;
-        for (const pugi::xpath_node& n : set) out.push_back(numbers.at(n.node().internal_object()));
+        for (const pugi::xpath_node& n : set) out.push_back(numbers.at(object_of(n)));
         std::sort(out.begin(), out.end());
         std::printf("%zu", out.size());
         for (uint32_t v : out) std::printf(" %u", v);
@@ -63,7 +74,7 @@ static void answer_eval(size_t start, const std::string& text) {
 }
 
 static void answer_number(const std::string& text) {
-    double v = pugi::xpath_query(text.c_str()).evaluate_number(pugi::xpath_node(nodes[0]));
+    double v = pugi::xpath_query(text.c_str()).evaluate_number(nodes[0]);
     uint64_t bits;
     std::memcpy(&bits, &v, 8);
     std::printf("%016llx\n", (unsigned long long)bits);

@@ -1,11 +1,13 @@
 # A third opinion on what a path selects, written from the Recommendation and
-# document 01 on plain lists. The expected answers of the vectors come from the
+# documents 01 and 02 on plain lists. The expected answers of the vectors come from the
 # engines; this is used to see which cases are worth asking, to bound their
 # cost, and to settle where two engines differ.
 import math
 import struct
 
 REVERSE = {2, 4, 6, 8, 10}
+ELEMENT, ATTRIBUTE = 1, 5
+ATTRIBUTE_AXIS = 11
 
 
 class TooLong(Exception):
@@ -59,15 +61,19 @@ class Tree:
         self.parent = [None] + table[2::4][1:]
         self.size = table[3::4]
         self.children = [[] for _ in range(n)]
+        self.attributes = [[] for _ in range(n)]
         for i in range(1, n):
-            self.children[self.parent[i]].append(i)
+            held = self.attributes if self.kind[i] == ATTRIBUTE else self.children
+            held[self.parent[i]].append(i)
+        self.has_attributes = ATTRIBUTE in self.kind
 
-    def passes(self, i, test):
+    def passes(self, i, test, axis):
         if test == 0:
             return True
-        if test <= 4:
+        if 2 <= test <= 4:
             return self.kind[i] == test
-        return self.kind[i] == 1 and self.name[i] == test - 16
+        principal = ATTRIBUTE if axis == ATTRIBUTE_AXIS else ELEMENT
+        return self.kind[i] == principal and test in (1, 16 + self.name[i])
 
     def ancestors(self, i):
         out = []
@@ -77,7 +83,15 @@ class Tree:
         return out
 
     def siblings(self, i):
-        return [] if self.parent[i] is None else self.children[self.parent[i]]
+        if self.parent[i] is None or self.kind[i] == ATTRIBUTE:
+            return []
+        return self.children[self.parent[i]]
+
+    def others(self, nodes):
+        """Those that are no attributes."""
+        if not self.has_attributes:
+            return nodes
+        return [i for i in nodes if self.kind[i] != ATTRIBUTE]
 
     def axis(self, i, axis):
         """The nodes of an axis in the order of the axis."""
@@ -89,21 +103,23 @@ class Tree:
         if axis == 2:
             return self.ancestors(i)[:1]
         if axis == 3:
-            return range(i + 1, end)
+            return self.others(range(i + 1, end))
         if axis == 4:
             return self.ancestors(i)
         if axis == 5:
-            return range(i, end)
+            return [i, *self.others(range(i + 1, end))]
         if axis == 6:
             return [i] + self.ancestors(i)
         if axis == 7:
-            return range(end, self.count)
+            return self.others(range(end, self.count))
         if axis == 8:
             above = set(self.ancestors(i))
-            return [j for j in range(i - 1, -1, -1) if j not in above]
+            return self.others([j for j in range(i - 1, -1, -1) if j not in above])
         if axis == 9:
             return [j for j in self.siblings(i) if j > i]
-        return [j for j in reversed(self.siblings(i)) if j < i]
+        if axis == 10:
+            return [j for j in reversed(self.siblings(i)) if j < i]
+        return self.attributes[i]
 
 
 class Evaluator:
@@ -142,7 +158,7 @@ class Evaluator:
         _, _, last, axis, test = self.rows[link - 1]
         nodes = self.tree.axis(node, axis)
         self.charge(len(nodes))
-        kept = nodes if test == 0 else [n for n in nodes if self.tree.passes(n, test)]
+        kept = nodes if test == 0 else [n for n in nodes if self.tree.passes(n, test, axis)]
         for p in self.chain(last):
             kept = self.keep(self.rows[p - 1][2], kept)
         return kept

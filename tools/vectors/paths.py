@@ -3,7 +3,10 @@
 import meaning
 
 SELF, CHILD, PARENT, DESCENDANT, ANCESTOR, DESCENDANT_SELF, ANCESTOR_SELF = range(7)
-FOLLOWING, PRECEDING, FOLLOWING_SIBLING, PRECEDING_SIBLING = range(7, 11)
+FOLLOWING, PRECEDING, FOLLOWING_SIBLING, PRECEDING_SIBLING, ATTRIBUTE = range(7, 12)
+AXES = range(12)
+# For tables with attributes.
+ATTRIBUTE_AXES = list(AXES) + [ATTRIBUTE] * 2
 
 COMMON_VALUES = [0.0, 1.0, 1.0, 2.0, 2.0, 3.0, 4.0, 5.0, 7.0, 0.5, 1.5, 2.5, 0.25]
 RARE_VALUES = [
@@ -29,7 +32,7 @@ class Row:
 class Maker:
     """Makes random parts of a path; budget bounds the number of rows."""
 
-    def __init__(self, rng, names, budget, depth, axes=range(11)):
+    def __init__(self, rng, names, budget, depth, axes=AXES):
         self.rng = rng
         self.names = names
         self.budget = budget
@@ -119,11 +122,11 @@ class Maker:
             left = self.row(self.rng.pick([2, 3]))
         return self.row(self.rng.between(10, 15), left, self.number(level, 2))
 
-    def quiet_path(self, level, steps):
-        """A relative path in which no top-level step counts."""
+    def quiet_path(self, level, steps, axes):
+        """A relative path on these axes in which no top-level step counts."""
         last = None
         for _ in range(steps):
-            axis, test, predicate = self.rng.pick(self.axes), self.test(), None
+            axis, test, predicate = self.rng.pick(axes), self.test(), None
             for _ in range(self.rng.weighted([(45, 0), (40, 1), (15, 2)])):
                 if self.budget > 3:
                     predicate = self.row(25, predicate, self.quiet_truth(level))
@@ -147,7 +150,7 @@ class Maker:
         return self.row(20, self.path(level + 1))
 
 
-CHEAP_AXES = [SELF, CHILD, PARENT, CHILD, FOLLOWING_SIBLING, PRECEDING_SIBLING, ANCESTOR]
+CHEAP_AXES = [SELF, CHILD, PARENT, CHILD, FOLLOWING_SIBLING, PRECEDING_SIBLING, ANCESTOR, ATTRIBUTE]
 
 
 def nested_path(rng, names, depth, level=1):

@@ -1,7 +1,8 @@
 # Random node tables of several shapes, and the XML document of a table.
-# A tree is a list [kind, name, children]; tables are flat lists of numbers.
+# A tree is a list [kind, name, children], an element's attributes first among
+# its children; tables are flat lists of numbers.
 
-ROOT, ELEMENT, TEXT, COMMENT, INSTRUCTION = range(5)
+ROOT, ELEMENT, TEXT, COMMENT, INSTRUCTION, ATTRIBUTE = range(6)
 
 
 def element(name):
@@ -147,6 +148,30 @@ def part_texts(rng, tree, names):
         stack.extend(parted)
 
 
+def nodes_of(tree):
+    nodes = [tree]
+    for node in nodes:
+        nodes.extend(node[2])
+    return nodes
+
+
+def free_name(rng, node, names):
+    """A name that none of the node's attributes has: one of these, or a number behind it."""
+    taken = {child[1] for child in node[2] if child[0] == ATTRIBUTE}
+    name = rng.pick(names)
+    while name in taken:
+        name = name % 65535 + 1
+    return name
+
+
+def add_attributes(rng, tree, names, count):
+    """This many attributes, each before all else of a random element."""
+    elements = [node for node in nodes_of(tree) if node[0] == ELEMENT]
+    for _ in range(count):
+        node = rng.pick(elements)
+        node[2].insert(0, [ATTRIBUTE, free_name(rng, node, names), []])
+
+
 def flatten(tree):
     """The table of a tree whose top is the root node."""
     table = []
@@ -175,31 +200,55 @@ def shaped_tree(rng, shape, n, names, leaves):
     return parameter_tree(rng, n)
 
 
-def make_tree(rng, shape, rows, names, leaves):
-    """A document of this many nodes, the root counted."""
-    before = aside(rng, names) if rows > 6 else []
-    after = aside(rng, names) if rows > 6 else []
-    n = rows - 1 - len(before) - len(after)
-    top = shaped_tree(rng, shape, n, names, leaves)
+def make_tree(rng, shape, rows, names, leaves, share=0):
+    """A document of this many nodes, the root counted; share percent of them
+    are attributes."""
+    attributes = min(rows * share // 100, rows - 2)
+    others = rows - attributes
+    before = aside(rng, names) if others > 6 else []
+    after = aside(rng, names) if others > 6 else []
+    top = shaped_tree(rng, shape, others - 1 - len(before) - len(after), names, leaves)
     tree = [ROOT, 0, before + [top] + after]
     separate_texts(tree)
+    add_attributes(rng, tree, names, attributes)
     return tree
 
 
-def make_table(rng, shape, rows, names, leaves):
-    return flatten(make_tree(rng, shape, rows, names, leaves))
+def make_table(rng, shape, rows, names, leaves, share=0):
+    return flatten(make_tree(rng, shape, rows, names, leaves, share))
 
 
-def leafy_table(rng, n, names):
+def some_share(rng):
+    """No attributes, or some, or many."""
+    return rng.pick([0, 0, 0, 20, 35, 50])
+
+
+def has_attributes(table):
+    return ATTRIBUTE in table[0::4]
+
+
+def leafy_table(rng, n, names, attributes):
     """About as many leaves as elements; texts parted by comments and
-    instructions, so there are some more rows than n."""
+    instructions, so there are some more rows than n and the attributes."""
     top = random_tree(rng, n, names, 50, rng.pick([2, 6, 1 << 30]))
     part_texts(rng, top, names)
-    return flatten([ROOT, 0, aside(rng, names) + [top] + aside(rng, names)])
+    tree = [ROOT, 0, aside(rng, names) + [top] + aside(rng, names)]
+    add_attributes(rng, tree, names, attributes)
+    return flatten(tree)
 
 
-def kind_text(kind, name):
-    return {1: "<e%d>" % name, 2: "t", 3: "<!--c-->", 4: "<?p%d d?>" % name}[kind]
+def element_text(table, i):
+    """The start tag of row i; its attributes stand right behind it."""
+    names = []
+    j = 4 * i + 4
+    while j < len(table) and table[j] == ATTRIBUTE:
+        names.append(table[j + 1])
+        j += 4
+    return "<e%d%s>" % (table[4 * i + 1], "".join(' e%d="v"' % name for name in names))
+
+
+def leaf_text(kind, name):
+    return {TEXT: "t", COMMENT: "<!--c-->", INSTRUCTION: "<?p%d d?>" % name, ATTRIBUTE: ""}[kind]
 
 
 def xml_text(table):
@@ -209,7 +258,7 @@ def xml_text(table):
         while open_elements and open_elements[-1][1] < i:
             out.append("</e%d>" % open_elements.pop()[0])
         kind, name, _, size = table[4 * i:4 * i + 4]
-        out.append(kind_text(kind, name))
+        out.append(element_text(table, i) if kind == ELEMENT else leaf_text(kind, name))
         if kind == ELEMENT:
             open_elements.append((name, i + size))
     while open_elements:

@@ -1,13 +1,14 @@
 # The XPath text of a path given as rows. Literals are written so that every
 # engine reads exactly the double that is meant: short ones in decimal, others
-# as an exact product or quotient of whole numbers.
+# as an exact product or quotient of whole numbers. A name k is ek on every axis,
+# as elements and attributes are named in the documents.
 from fractions import Fraction
 
 import meaning
 
 AXES = ["self", "child", "parent", "descendant", "ancestor", "descendant-or-self",
         "ancestor-or-self", "following", "preceding", "following-sibling",
-        "preceding-sibling"]
+        "preceding-sibling", "attribute"]
 TESTS = ["node()", "*", "text()", "comment()", "processing-instruction()"]
 SIGNS = {4: "+", 5: "-", 6: "*", 7: "div", 8: "mod", 10: "=", 11: "!=", 12: "<",
          13: "<=", 14: ">", 15: ">=", 16: "and", 17: "or"}
