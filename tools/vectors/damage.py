@@ -14,14 +14,14 @@ BAD_LITERALS = NAN_BITS + [0x8000000000000000, 0x7FF0000000000000, 0xFFF00000000
 GOOD_LITERALS = [0, 1, 0x000FFFFFFFFFFFFF, 0x0010000000000000, 0x7FEFFFFFFFFFFFFF,
                  0x3FF0000000000000, 0x3FB999999999999A, 0x4000000000000000]
 GOOD_PATH = [24, 0, 0, 1, 0, 22, 1, 0, 0, 0]
-BAD_PATH = [24, 0, 0, 11, 0, 22, 1, 0, 0, 0]
+BAD_PATH = [24, 0, 0, 12, 0, 22, 1, 0, 0, 0]
 
 
 # ---- damaged tables ----
 
 def small_table(rng):
     shape = rng.pick(selection.SHAPES)
-    return tables.make_table(rng, shape, rng.between(2, 18), [1, 2, 3], 35)
+    return tables.make_table(rng, shape, rng.between(2, 18), [1, 2, 3], 35, tables.some_share(rng))
 
 
 def odd_value(rng, rows):
@@ -70,7 +70,7 @@ def move_parent(rng, table):
 
 def change_kind(rng, table):
     i = rng.below(len(table) // 4)
-    kind = rng.pick([0, 1, 2, 3, 4, 5, TOP])
+    kind = rng.pick([0, 1, 2, 3, 4, 5, 6, TOP])
     table[4 * i] = kind
     if rng.chance(60):
         table[4 * i + 1] = rng.pick([0, 1])
@@ -101,11 +101,10 @@ def fixed_tables(rng):
     yield [0, 0, 0, 0]
     yield [0, 0, 0, 1]
     yield [0, 0, 0, 3, 1, 1, 0, 2, 1, 1, 1, 0, 2, 0, 1, 0, 9]
-    full = tables.make_table(rng, "balanced", 4096, [1, 2], 20)
+    full = tables.make_table(rng, "balanced", 4096, [1, 2], 20, 25)
     yield full
     yield full + [0]
     yield full[:-1]
-    yield full + [1, 1, 0, 0]
     longer = list(full) + [1, 1, 0, 0]
     longer[3] = 4096
     yield longer
@@ -211,7 +210,7 @@ def path_step(rng, path):
     if steps:
         r = rng.pick(steps)
         if rng.chance(50):
-            path[5 * r + 3] = rng.pick([11, 12, TOP])
+            path[5 * r + 3] = rng.pick([12, 13, TOP])
         else:
             path[5 * r + 4] = rng.pick([5, 6, 15, 16, 65552, TOP])
 
@@ -283,7 +282,8 @@ def fixed_paths(rng):
     yield [26, 0, 0, 0, 0, 24, 0, 0, 0, 0, 22, 2, 0, 0, 0], []
     yield step + [23, 1, 0, 0, 0, 20, 2, 0, 0, 0, 25, 0, 3, 0, 0, 24, 0, 4, 0, 0, 22, 5, 0, 0, 0], []
     yield step + [23, 1, 0, 0, 0, 25, 0, 2, 0, 0, 24, 0, 3, 0, 0, 22, 4, 0, 0, 0], []
-    for axis, test in [(10, 0), (11, 0), (0, 4), (0, 5), (0, 16), (0, 17), (0, 65551), (0, 65552)]:
+    for axis, test in [(10, 0), (11, 0), (12, 0), (0, 4), (0, 5), (0, 16), (0, 17), (0, 65551), (0, 65552),
+                       (11, 4), (11, 5), (11, 16), (11, 65551), (11, 65552), (12, 17), (TOP, 0)]:
         yield [24, 0, 0, axis, test] + relative, []
 
 
@@ -359,9 +359,10 @@ def start_cases(rng, sheet, table):
 
 # ---- turning ----
 
-def quiet_top(rng, names, op=22):
-    maker = paths.Maker(rng, names, rng.pick([6, 14, 24]), 3)
-    top = maker.quiet_path(1, rng.weighted([(40, 1), (35, 2), (20, 3), (5, 5)]))
+def quiet_top(rng, names, op=22, axes=range(11)):
+    """No step counts; the attribute axis only inside predicates, unless asked for."""
+    maker = paths.Maker(rng, names, rng.pick([6, 14, 24]), 3, paths.ATTRIBUTE_AXES)
+    top = maker.quiet_path(1, rng.weighted([(40, 1), (35, 2), (20, 3), (5, 5)]), axes)
     top.op = op
     return top
 
@@ -393,6 +394,29 @@ def turn_refusals(rng, sheet, count):
                 sheet.turn("damage", path, literals, room, *result)
                 if result[0] != 11:
                     break
+
+
+def attribute_turnings(rng, sheet, count):
+    """A top-level step on the attribute axis, with and without what is refused
+    before it and after it."""
+    for i in range(count):
+        top = quiet_top(rng, [1, 2, 3], rng.pick([22, 22, 23]), [1, 2, 3, 11])
+        if i % 3 == 0:
+            top.a = Row(24, top.a, Row(25, None, rng.pick(counting_predicates())), rng.pick([1, 11]), 0)
+        path, literals = paths.write_path(rng, top, rng.chance(50))
+        if checker.check_path(path, literals)[0] == 0:
+            room = rng.pick([0, 5, 1300])
+            sheet.turn("attributes", path, literals, room, *checker.turn(path, literals, room))
+
+
+def attribute_limits(sheet):
+    """13 goes before 11, also where the path is too long to be turned."""
+    for rows in (255, 256):
+        for place in (1, rows // 2, rows - 1):
+            path = quiet_chain(rows)
+            path[5 * place - 2] = paths.ATTRIBUTE
+            for room in (0, 1300):
+                sheet.turn("attributes", path, [], room, *checker.turn(path, [], room))
 
 
 def turn_limits(sheet):
@@ -469,9 +493,12 @@ def add_damage(rng, sheet):
     turn_refusals(rng, sheet, 160)
     turn_limits(sheet)
     counting_cases(rng, sheet)
-    view_cases(rng, sheet, [selection.SMALLEST, selection.REFERENCE] + [small_table(rng) for _ in range(8)], 16)
-    view_cases(rng, sheet, [tables.make_table(rng, "random", 300, [1, 2], 30)], 6)
-    long_views(sheet, tables.make_table(rng, "balanced", 4096, [1], 20))
+    attribute_turnings(rng, sheet, 90)
+    attribute_limits(sheet)
+    fixed = [selection.SMALLEST, selection.REFERENCE, selection.WITH_ATTRIBUTES, selection.ELEVEN]
+    view_cases(rng, sheet, fixed + [small_table(rng) for _ in range(8)], 16)
+    view_cases(rng, sheet, [tables.make_table(rng, "random", 300, [1, 2], 30, 30)], 6)
+    long_views(sheet, tables.make_table(rng, "balanced", 4096, [1], 20, 20))
 
 
 def long_views(sheet, table):

@@ -1,6 +1,6 @@
 # Cases with answers known beforehand: R1 to R13 of document 01, whose answers
-# that document gives, and the minimal examples of docs/ENGINES.md, which the
-# Recommendation decides.
+# that document gives, those of document 02's readings, and the minimal examples
+# of docs/ENGINES.md, which the Recommendation decides.
 import meaning
 import paths
 import selection
@@ -29,6 +29,10 @@ def absolute(*parts):
 
 def number(value):
     return Row(1, value)
+
+
+def exists(*parts):
+    return Row(20, relative(*parts))
 
 
 def later():
@@ -64,19 +68,88 @@ def reference_list():
     ]
 
 
+def attribute_list():
+    """Runs on the first table with attributes, of document 02's readings."""
+    empty = [("W-209", 2, relative((axis, 0)), []) for axis in (1, 3, 9, 10, 11)]
+    return empty + [
+        ("W-209", 2, relative((0, 0)), [2]),
+        ("W-209", 2, relative((0, 1)), []),
+        ("W-209", 2, relative((0, 17)), []),
+        ("W-209", 2, relative((6, 1)), [1]),
+        ("W-209", 2, relative((6, 0)), [0, 1, 2]),
+        ("W-209", 2, relative((5, 0)), [2]),
+        ("W-209", 2, relative((2, 1)), [1]),
+        ("W-209", 5, relative((8, 0)), []),
+        ("W-209", 1, relative((11, 1, number(2.0))), [3]),
+        ("W-209", 1, relative((11, 18, number(1.0))), [3]),
+        ("W-209", 1, relative((11, 2)), []),
+        ("W-209", 1, relative((1, 0)), [4, 7, 8]),
+        ("W-209", 1, relative((1, 0, number(1.0))), [4]),
+        ("W-209", 2, relative((2, 17)), [1]),
+        ("W-209", 1, relative((0, 17), (1, 0)), [4, 7, 8]),
+    ]
+
+
 # <e1><e2/></e1><!--c-->
 BEHIND = [0, 0, 0, 3, 1, 1, 0, 1, 1, 2, 1, 0, 3, 0, 0, 0]
 # <e1><e2/></e1><?p1?><!--c-->
 TWO_BEHIND = [0, 0, 0, 4, 1, 1, 0, 1, 1, 2, 1, 0, 4, 1, 0, 0, 3, 0, 0, 0]
+# <e1 e1="v"><e2/></e1>
+BEFORE = [0, 0, 0, 3, 1, 1, 0, 2, 5, 1, 1, 0, 1, 2, 1, 0]
+# <e1 e1="v" e2="v"><e2 e1="v"/><!--c--></e1><?p1?>
+MORE_BEFORE = [0, 0, 0, 7, 1, 1, 0, 5, 5, 1, 1, 0, 5, 2, 1, 0, 1, 2, 1, 1, 5, 1, 4, 0, 3, 0, 1, 0, 4, 1, 0, 0]
 
 
 def settled_list():
+    three = Row(10, Row(21, relative((7, 0))), number(3.0))
     return [
         (BEHIND, 3, relative((8, 0)), [1, 2]),
         (BEHIND, 3, relative((8, 1, Row(3))), [1]),
         (BEHIND, 0, absolute((1, 3), (8, 17)), [1]),
         (TWO_BEHIND, 4, relative((8, 0, number(3.0))), [1]),
+        (BEFORE, 2, relative((7, 0)), [3]),
+        (BEFORE, 2, relative((7, 18, number(1.0))), [3]),
+        (BEFORE, 1, relative((0, 0, exists((11, 0), (7, 0)))), [1]),
+        (MORE_BEFORE, 2, relative((7, 0)), [4, 6, 7]),
+        (MORE_BEFORE, 3, relative((7, 0, Row(5, Row(3), number(1.0)))), [6]),
+        (MORE_BEFORE, 3, relative((7, 0, number(2.0))), [6]),
+        (MORE_BEFORE, 0, absolute((3, 1), (11, 1), (7, 1)), [4]),
+        (MORE_BEFORE, 0, absolute((3, 1), (11, 0, exists((7, 18)))), [2, 3]),
+        (MORE_BEFORE, 0, absolute((3, 1), (11, 0, exists((7, 3)))), [2, 3, 5]),
+        (MORE_BEFORE, 0, absolute((3, 1), (11, 0, Row(18, exists((7, 1))))), [5]),
+        (MORE_BEFORE, 0, absolute((3, 1), (11, 0, three)), [2, 3]),
+        (MORE_BEFORE, 0, absolute((3, 1, exists((11, 18), (7, 18)))), [1]),
+        (selection.WITH_ATTRIBUTES, 2, relative((7, 0)), [4, 6, 7, 8]),
+        (selection.ELEVEN, 4, relative((7, 0)), [5, 6, 8, 9, 10]),
     ]
+
+
+def turning_list():
+    """Paths of document 02's readings, each with the room, and its number and place."""
+    return [
+        (relative((11, 18), (1, 17, number(1.0))), 1300, 9, 2),
+        (relative((11, 18, number(1.0))), 1300, 9, 1),
+        (absolute((11, 18)), 1300, 13, 1),
+        (relative((11, 18)), 0, 13, 1),
+        (relative((0, 0), (11, 1), (2, 1), (11, 1)), 1300, 13, 2),
+        (absolute((11, 18, number(1.0))), 0, 9, 1),
+        (absolute((1, 18), (11, 0)), 0, 13, 2),
+    ]
+
+
+# child::1[attribute::*[1]] up to its first predicate; turned it has the same.
+HELD = [1, 0, 0, 0, 0, 25, 0, 1, 0, 0, 24, 0, 2, 11, 1, 22, 3, 0, 0, 0, 20, 4, 0, 0, 0, 25, 0, 5, 0, 0]
+HOLDER = HELD + [24, 0, 6, 1, 17, 22, 7, 0, 0, 0]
+HOLDER_TURNED = HELD + [24, 0, 6, 0, 17, 24, 7, 0, 2, 0, 22, 8, 0, 0, 0]
+
+
+def turning_cases():
+    """path, literals, room, the answer."""
+    rng = Rng(3)
+    for top, room, number_given, place in turning_list():
+        path, literals = paths.write_path(rng, top, False)
+        yield path, literals, room, (number_given, place, [])
+    yield HOLDER, [meaning.literal_bits(1.0)], 45, (0, 9, HOLDER_TURNED)
 
 
 def make_case(name, table, start, top, expected, rng):
@@ -88,8 +161,9 @@ def make_case(name, table, start, top, expected, rng):
 
 def reference_cases():
     rng = Rng(1)
-    return [make_case(name, selection.REFERENCE, start, top, expected, rng)
-            for name, start, top, expected in reference_list()]
+    lists = [(selection.REFERENCE, reference_list()), (selection.WITH_ATTRIBUTES, attribute_list())]
+    return [make_case(name, table, start, top, expected, rng)
+            for table, cases in lists for name, start, top, expected in cases]
 
 
 def settled_cases():

@@ -2,11 +2,12 @@
 # usage: generate.py <folder with the engine programs> <output folder>
 import sys
 
+import attributes
 import checker
 import damage
 import engines
 import examples
-import meaning
+import known
 import paths
 import places
 import selection
@@ -37,25 +38,6 @@ def ask_cases(build, cases):
         case["libxml2"] = engines.read_answer(l)
 
 
-class WithoutFirst(meaning.Tree):
-    """docs/ENGINES.md: on preceding:: libxml2 leaves out the first child of
-    the root where that has children."""
-
-    def axis(self, i, axis):
-        nodes = super().axis(i, axis)
-        if axis == 8 and self.size[1] > 0:
-            return [n for n in nodes if n != 1]
-        return nodes
-
-
-def known_error(case):
-    """Whether libxml2's answer is exactly what its known error makes of it."""
-    evaluator = meaning.Evaluator(case["table"], case["path"], case["literals"])
-    evaluator.tree = WithoutFirst(case["table"])
-    explained = evaluator.select(case["start"]) == case["libxml2"]
-    return explained and case["pugixml"] == case["guess"]
-
-
 def sort_out(cases, log):
     """The cases on which the engines agree; the others go to the log."""
     kept = []
@@ -63,9 +45,10 @@ def sort_out(cases, log):
         if agreed(case):
             kept.append(case)
             continue
-        log.append("%(name)s from %(start)d: %(text)s\n  pugixml %(pugixml)s\n"
+        case["cause"] = known.cause(case)
+        log.append("%(cause)s: %(name)s from %(start)d: %(text)s\n  pugixml %(pugixml)s\n"
                    "  libxml2 %(libxml2)s\n  third   %(guess)s\n" % case)
-        if not known_error(case):
+        if case["cause"] is None:
             sys.exit("a disagreement that docs/ENGINES.md does not explain:\n" + log[-1])
     return kept
 
@@ -94,8 +77,11 @@ def write_case(rng, sheet, case, sort):
 # ---- turned paths, held against the engines ----
 
 def all_starts(name, table, path, literals):
+    """Every node but attributes: turning speaks of pairs of other nodes."""
     cases = []
     for start in range(len(table) // 4):
+        if table[4 * start] == tables.ATTRIBUTE:
+            continue
         nodes, _ = selection.guess(table, path, literals, start, 30000)
         if nodes is None:
             return None
@@ -105,7 +91,7 @@ def all_starts(name, table, path, literals):
 
 
 def turning_pair(rng, table, names):
-    """The cases of a path and of its turned path from every node, or None."""
+    """The cases of a path and of its turned path, or None."""
     top = damage.quiet_top(rng, names)
     path, literals = paths.write_path(rng, top, rng.chance(60))
     room = 5 * (len(path) // 5 + 1) + rng.pick([0, 0, 1, 7])
@@ -143,16 +129,17 @@ def relation_turns(there, back):
 
 
 def explained_pair(pair):
-    """pugixml bears the turning out; libxml2 does, but for its known error."""
+    """pugixml bears the turning out; libxml2 does, but for its known errors."""
     there, back = (engine_relation(pair[k], "pugixml") for k in ("there", "back"))
     cases = pair["there"] + pair["back"]
-    return relation_turns(there, back) and all(agreed(c) or known_error(c) for c in cases)
+    return relation_turns(there, back) and all(agreed(c) or known.cause(c) for c in cases)
 
 
 def turning_cases(rng, build, sheet, log, count):
     pairs = []
     while len(pairs) < count:
-        table = tables.make_table(rng, rng.pick(selection.SHAPES), rng.between(4, 22), [1, 2, 3], 25)
+        share = tables.some_share(rng)
+        table = tables.make_table(rng, rng.pick(selection.SHAPES), rng.between(4, 22), [1, 2, 3], 25, share)
         for _ in range(4):
             pair = turning_pair(rng, table, [1, 2, 3])
             if pair is not None:
@@ -164,7 +151,8 @@ def turning_cases(rng, build, sheet, log, count):
         if not explained_pair(pair):
             sys.exit("a disagreement on turning: " + pair["there"][0]["text"])
         if not turns_round(pair):
-            log.append("turning: " + pair["there"][0]["text"] + "\n")
+            causes = {known.cause(c) for c in pair["there"] + pair["back"] if not agreed(c)}
+            log.append("%s: turning: %s\n" % (" ".join(sorted(causes)), pair["there"][0]["text"]))
             continue
         result = checker.turn(pair["path"], pair["literals"], pair["room"])
         sheet.turn("turning", pair["path"], pair["literals"], pair["room"], *result)
@@ -181,6 +169,9 @@ def place_cases(rng, build, sheet, log):
     ask_cases(build, cases)
     for case in sort_out(cases, log):
         sheet.place("engines", case["table"], case["axis"], case["start"], case["node"], case["place"])
+    for table, axis, x, y, place in places.EXAMPLES:
+        assert places.place(checker.check_table, table, axis, x, y) == place
+        sheet.place("document", table, axis, x, y, place)
     places.add_refused(rng, sheet)
     places.add_misfits(rng, sheet)
 
@@ -200,6 +191,9 @@ def example_cases(rng, build, sheet):
         write_case(rng, sheet, case, "settled")
         if case["libxml2"] == case["expected"]:
             print("this libxml2 is right on:", case["text"])
+    for path, literals, room, expected in examples.turning_cases():
+        assert checker.turn(path, literals, room) == expected
+        sheet.turn("document", path, literals, room, *expected)
 
 
 def write_lines(name, lines):
@@ -219,7 +213,7 @@ def main(build, folder):
     sys.setrecursionlimit(10000)
     sheet, log = Sheet(), []
     example_cases(Rng(SEED), build, sheet)
-    chooser = selection.choose_cases(Rng(SEED + 41))
+    chooser = selection.choose_cases(Rng(SEED + 12))
     ask_cases(build, chooser.cases)
     kept = sort_out(chooser.cases, log)
     rng = Rng(SEED + 2)
@@ -229,6 +223,7 @@ def main(build, folder):
     damage.add_damage(Rng(SEED + 4), sheet)
     place_cases(Rng(SEED + 5), build, sheet, log)
     wellformed.add_cases(Rng(SEED + 6), sheet)
+    attributes.add_cases(Rng(SEED + 8), sheet)
     write_lines(folder + "/stdin", sheet.commands)
     write_lines(folder + "/stdout", sheet.answers)
     write_lines(build + "/disagreements.txt", log)

@@ -10,8 +10,14 @@ import selection
 import tables
 import wellformed
 
-LAST_AXIS = 10
+LAST_AXIS = checker.LAST_AXIS
 TABLES = 40
+
+# Document 02's readings: table, axis, x, y and the place.
+EXAMPLES = [(selection.ELEVEN, 7, 4, y, k) for y, k in [(5, 1), (6, 2), (7, 0), (8, 3), (9, 4), (10, 5), (3, 0)]]
+EXAMPLES += [(selection.ELEVEN, 8, 4, y, k) for y, k in [(1, 1), (2, 0), (3, 0), (0, 0)]]
+EXAMPLES += [(selection.WITH_ATTRIBUTES, 7, 2, y, k) for y, k in [(3, 0), (4, 1), (5, 0), (6, 2), (7, 3), (8, 4)]]
+EXAMPLES += [(selection.WITH_ATTRIBUTES, 11, 1, y, k) for y, k in [(2, 1), (3, 2), (4, 0), (5, 0)]]
 
 
 def place(check, table, axis, x, y, make_tree=meaning.Tree):
@@ -45,9 +51,10 @@ def question(rng, table, x, axis, y):
 
 
 def sound_cases(rng):
-    made = [selection.REFERENCE]
+    made = [selection.REFERENCE, selection.WITH_ATTRIBUTES, selection.ELEVEN]
     while len(made) < TABLES:
-        made.append(tables.make_table(rng, rng.pick(selection.SHAPES), rng.between(2, 40), [1, 2, 3], 25))
+        share = tables.some_share(rng)
+        made.append(tables.make_table(rng, rng.pick(selection.SHAPES), rng.between(2, 40), [1, 2, 3], 25, share))
     return [question(rng, table, *pair) for table in made for pair in choose(rng, table)]
 
 

@@ -12,6 +12,11 @@ SHAPES = ["chain", "wide", "balanced", "random", "parameter"]
 REFERENCE = [0, 0, 0, 9, 1, 1, 0, 8, 1, 2, 1, 3, 1, 3, 2, 0, 1, 3, 2, 0, 1, 4, 2, 0,
              1, 2, 1, 3, 1, 3, 6, 0, 1, 4, 6, 0, 1, 4, 6, 0]
 SMALLEST = [0, 0, 0, 1, 1, 1, 0, 0]
+# Two tables with attributes, of document 02's readings.
+WITH_ATTRIBUTES = [0, 0, 0, 8, 1, 1, 0, 7, 5, 1, 1, 0, 5, 2, 1, 0, 1, 2, 1, 2, 5, 1, 4, 0,
+                   2, 0, 4, 0, 3, 0, 1, 0, 1, 1, 1, 0]
+ELEVEN = [0, 0, 0, 10, 3, 0, 0, 0, 1, 1, 0, 7, 5, 1, 2, 0, 5, 2, 2, 0, 2, 0, 2, 0,
+          1, 2, 2, 2, 5, 1, 6, 0, 3, 0, 6, 0, 2, 0, 2, 0, 4, 9, 0, 0]
 
 
 def guess(table, path, literals, start, limit):
@@ -43,13 +48,13 @@ class Chooser:
             self.add(name, table, path, literals, start, nodes)
         return nodes
 
-    def random_top(self, names):
+    def random_top(self, names, axes):
         rng = self.rng
         if rng.chance(14):
             return paths.nested_path(rng, names, rng.between(3, 8))
         budget = rng.pick([4, 8, 14, 22, 40])
         depth = rng.weighted([(10, 1), (45, 2), (35, 3), (10, 5)])
-        return paths.Maker(rng, names, budget, depth).path(1)
+        return paths.Maker(rng, names, budget, depth, axes).path(1)
 
     def starts_for(self, rows, path):
         if path[-5] == 23:
@@ -58,7 +63,8 @@ class Chooser:
 
     def random_path(self, name, table, names, limit, wanted):
         """Tries one random path; gives back how many cases it made."""
-        top = self.random_top(names)
+        axes = paths.ATTRIBUTE_AXES if tables.has_attributes(table) else paths.AXES
+        top = self.random_top(names, axes)
         path, literals = paths.write_path(self.rng, top, self.rng.chance(55))
         if checker.check_path(path, literals)[0] != 0:
             return 0
@@ -98,19 +104,22 @@ def tiny_tables(rng):
     out = []
     for i in range(12):
         names = name_pool(rng)
-        table = tables.make_table(rng, rng.pick(SHAPES), rng.between(2, 9), names, 35)
+        share = rng.pick([35, 50]) if i % 2 else 0
+        table = tables.make_table(rng, rng.pick(SHAPES), rng.between(2, 9), names, 35, share)
         out.append(("tiny", table, names))
     return out
 
 
 def shaped_tables(rng, label, each, low, high):
+    """Every other one has attributes."""
     out = []
-    for shape in SHAPES:
-        for _ in range(each):
-            names = [1, 2, 3, 4, 5, 6, 7] if shape == "parameter" else name_pool(rng)
-            leaves = rng.pick([10, 30, 45])
-            table = tables.make_table(rng, shape, rng.between(low, high), names, leaves)
-            out.append((label + " " + shape, table, names))
+    for k in range(len(SHAPES) * each):
+        shape = SHAPES[k // each]
+        names = [1, 2, 3, 4, 5, 6, 7] if shape == "parameter" else name_pool(rng)
+        leaves = rng.pick([10, 30, 45])
+        share = rng.pick([15, 30, 45]) if k % 2 == 0 else 0
+        table = tables.make_table(rng, shape, rng.between(low, high), names, leaves, share)
+        out.append((label + " " + shape, table, names))
     return out
 
 
@@ -141,7 +150,7 @@ def position_predicates():
 
 def systematic_steps(chooser, table, names):
     rows = len(table) // 4
-    for axis in range(11):
+    for axis in range(12):
         for test in [0, 1, 2, 3, 4, 16 + names[0]]:
             for _ in range(2):
                 start = chooser.rng.below(rows)
@@ -152,12 +161,12 @@ def best_start(chooser, table, axis, test):
     """A node with many candidates, out of a few random ones."""
     tree = meaning.Tree(table)
     nodes = [chooser.rng.below(tree.count) for _ in range(5)]
-    count = lambda i: sum(tree.passes(j, test) for j in tree.axis(i, axis))
+    count = lambda i: sum(tree.passes(j, test, axis) for j in tree.axis(i, axis))
     return max(nodes, key=count)
 
 
 def systematic_positions(chooser, table, names):
-    for axis in range(1, 11):
+    for axis in range(1, 12 if tables.has_attributes(table) else 11):
         for i in range(len(position_predicates())):
             test = chooser.rng.pick([0, 0, 1, 16 + chooser.rng.pick(names)])
             start = best_start(chooser, table, axis, test)
@@ -177,6 +186,63 @@ def from_the_root(chooser, table):
         inner = Row(22, Row(24, None, None, axis, 0))
         for value in (Row(20, inner), Row(10, Row(21, inner), Row(1, 0.0))):
             chooser.add_top("root", table, step_path(6, 0, [value]), 3)
+
+
+def near_attributes(table):
+    """The attributes and their elements."""
+    tree = meaning.Tree(table)
+    return [i for i in range(tree.count) if tree.attributes[i] or tree.kind[i] == meaning.ATTRIBUTE]
+
+
+def around_attributes(chooser, table):
+    """Each axis from attributes and their elements, each test where some pass
+    and where it tells attributes from elements."""
+    for start in near_attributes(table):
+        for axis in range(12):
+            chooser.add_top("attributes", table, step_path(axis, 0, []), start)
+        for axis, test in [(0, 1), (0, 17), (0, 18), (5, 1), (6, 1), (6, 17), (2, 1), (4, 17), (7, 1), (8, 1)]:
+            chooser.add_top("attributes", table, step_path(axis, test, []), start)
+        for test in [1, 2, 3, 4, 17, 18, 25] if table[4 * start] == tables.ELEMENT else [1]:
+            chooser.add_top("attributes", table, step_path(paths.ATTRIBUTE, test, []), start)
+
+
+def attribute_pairs(chooser, table):
+    """Every axis behind the attribute axis and before it."""
+    rng = chooser.rng
+    every = lambda: Row(24, None, None, paths.DESCENDANT_SELF, 0)
+    for axis in range(12):
+        for test in (0, 1):
+            held = Row(24, every(), None, paths.ATTRIBUTE, rng.pick([0, 1, 17]))
+            chooser.add_top("attributes", table, Row(23, Row(24, held, None, axis, test)), 0)
+            there = Row(24, None, None, axis, 0)
+            start = rng.pick(near_attributes(table))
+            chooser.add_top("attributes", table, Row(22, Row(24, there, None, paths.ATTRIBUTE, test)), start)
+
+
+def existence(rng, *parts):
+    """That a relative path of these steps selects something, or that it doesn't."""
+    last = None
+    for axis, test in parts:
+        last = Row(24, last, None, axis, test)
+    there = Row(20, Row(22, last))
+    return Row(18, there) if rng.chance(30) else there
+
+
+def attribute_truths(chooser, table, pairs):
+    """Existence from attributes, by way of them and up to them, over all axes;
+    with pairs, over all pairs of axes from attributes."""
+    rng = chooser.rng
+    test = lambda: rng.pick([0, 0, 1, 17, 18])
+    every = lambda inner=None: Row(24, None, inner and Row(25, None, inner), paths.DESCENDANT_SELF, 0)
+    held = lambda inner: Row(24, every(), Row(25, None, inner), paths.ATTRIBUTE, 0)
+    for axis in range(12):
+        tops = [held(existence(rng, (axis, test()))),
+                every(existence(rng, (paths.ATTRIBUTE, 0), (axis, test()))),
+                every(existence(rng, (axis, 0), (paths.ATTRIBUTE, test())))]
+        for second in range(12) if pairs else []:
+            tops.append(held(existence(rng, (axis, 0), (second, test()))))
+        for top in tops:
+            chooser.add_top("attributes", table, Row(23, top), 0)
 
 
 # ---- arithmetic ----
@@ -299,6 +365,20 @@ def fixed_big_paths():
     ]
 
 
+def attribute_big_paths():
+    """Attributes of all elements, elements by their attributes, and back."""
+    any_step = lambda: Row(24, None, None, paths.DESCENDANT_SELF, 0)
+    held = lambda test, *inner: Row(22, Row(24, None, Row(25, None, *inner) if inner else None, 11, test))
+    only = Row(16, Row(20, held(17)), Row(18, Row(20, held(18))))
+    return [
+        Row(23, Row(24, any_step(), None, 11, 17)),
+        Row(23, Row(24, any_step(), Row(25, None, only), 1, 1)),
+        Row(23, Row(24, any_step(), Row(25, None, Row(14, Row(21, held(1)), Row(1, 2.0))), 1, 1)),
+        Row(23, Row(24, any_step(), Row(25, None, Row(20, held(0, Row(1, 4.0)))), 1, 0)),
+        Row(23, Row(24, Row(24, Row(24, any_step(), None, 11, 18), None, 2, 1), Row(25, None, Row(3)), 11, 1)),
+    ]
+
+
 def step_chain(axes, predicate=None):
     """A relative path of these steps with node(); the last has a predicate."""
     last = None
@@ -342,9 +422,11 @@ def long_paths(chooser, table):
 
 def full_cases(chooser, name, table, names):
     fixed = fixed_big_paths()
-    heavy = fixed[:4]
+    heavy, held = fixed[:4], attribute_big_paths()
     chooser.rng.shuffle(heavy)
-    for top in heavy[:2] + fixed[4:]:
+    chooser.rng.shuffle(held)
+    chosen = heavy[:1] + held[:2] if tables.has_attributes(table) else heavy[:2]
+    for top in chosen + fixed[4:]:
         start = chooser.rng.pick([0, 1, 2000, 4095, chooser.rng.below(4096)])
         nodes = chooser.add_top(name, table, top, start, limit=2500000)
         if nodes is not None and len(nodes) > 900:
@@ -359,9 +441,14 @@ def choose_cases(rng):
     for name, table, names in tiny_tables(rng):
         chooser.random_cases(name, table, names, 24)
     chooser.random_cases("smallest", SMALLEST, [1], 20)
-    for name, table, names in shaped_tables(rng, "small", 4, 12, 60):
-        chooser.random_cases(name, table, names, 50)
-        if name in ("small random", "small balanced") and rng.chance(50):
+    for table in (WITH_ATTRIBUTES, ELEVEN):
+        chooser.random_cases("attributes", table, [1, 2], 50)
+        around_attributes(chooser, table)
+        attribute_pairs(chooser, table)
+        attribute_truths(chooser, table, table is ELEVEN)
+    for k, (name, table, names) in enumerate(shaped_tables(rng, "small", 4, 12, 60)):
+        chooser.random_cases(name, table, names, 42)
+        if name in ("small random", "small balanced") and k % 4 < 2:
             systematic_positions(chooser, table, names)
             systematic_steps(chooser, table, names)
     for name, table, names in shaped_tables(rng, "medium", 2, 90, 400):
@@ -370,7 +457,7 @@ def choose_cases(rng):
     long_paths(chooser, REFERENCE)
     for i in range(8):
         names = name_pool(rng)
-        table = tables.leafy_table(rng, rng.between(4, 45), names)
+        table = tables.leafy_table(rng, rng.between(4, 45), names, i % 2 * rng.between(2, 20))
         chooser.random_cases("leafy", table, names, 30)
     for name, table, names in shaped_tables(rng, "full", 1, 4096, 4096):
         full_cases(chooser, name, table, names)

@@ -5,10 +5,11 @@ import checker
 import damage
 import selection
 import tables
-from tables import COMMENT, ELEMENT, INSTRUCTION, TEXT
+from tables import ATTRIBUTE, COMMENT, ELEMENT, INSTRUCTION, TEXT
 
 KIND, NAME, PARENT, SIZE = range(4)
-LETTERS = {"e": [ELEMENT, 1], "t": [TEXT, 0], "c": [COMMENT, 0], "p": [INSTRUCTION, 1]}
+LETTERS = {"e": [ELEMENT, 1], "t": [TEXT, 0], "c": [COMMENT, 0], "p": [INSTRUCTION, 1],
+           "1": [ATTRIBUTE, 1], "2": [ATTRIBUTE, 2], "3": [ATTRIBUTE, 3]}
 TOP = damage.TOP
 
 EXAMPLES = [
@@ -108,13 +109,6 @@ def fixed_tables():
 
 # ---- random ones ----
 
-def nodes_of(tree):
-    nodes = [tree]
-    for node in nodes:
-        nodes.extend(node[2])
-    return nodes
-
-
 def elements(rng):
     return tables.chain_tree(rng, rng.between(1, 3), [1, 2], 0)
 
@@ -127,7 +121,7 @@ def become(rng, nodes, new):
 
 
 def text_anywhere(rng, tree):
-    become(rng, nodes_of(tree), [TEXT, 0, []])
+    become(rng, tables.nodes_of(tree), [TEXT, 0, []])
 
 
 def text_under_root(rng, tree):
@@ -143,16 +137,16 @@ def insert_under_root(rng, tree):
 
 
 def text_beside_text(rng, tree):
-    places = [(node[2], i) for node in nodes_of(tree) for i, child in enumerate(node[2]) if child[0] == TEXT]
+    places = [(node[2], i) for node in tables.nodes_of(tree) for i, child in enumerate(node[2]) if child[0] == TEXT]
     if places:
         children, i = rng.pick(places)
         children.insert(i + rng.below(2), [TEXT, 0, []])
 
 
 def no_element(rng, tree):
-    for node in nodes_of(tree):
+    for node in tables.nodes_of(tree):
         if node[0] == ELEMENT:
-            node[0] = rng.pick([COMMENT, INSTRUCTION, 5, TOP])
+            node[0] = rng.pick([COMMENT, INSTRUCTION, ATTRIBUTE, TOP])
 
 
 CHANGES = [text_anywhere, text_anywhere, text_under_root, element_under_root, insert_under_root,
@@ -160,7 +154,8 @@ CHANGES = [text_anywhere, text_anywhere, text_under_root, element_under_root, in
 
 
 def random_table(rng):
-    tree = tables.make_tree(rng, rng.pick(selection.SHAPES), rng.between(4, 24), [1, 2, 3], 45)
+    shape, share = rng.pick(selection.SHAPES), tables.some_share(rng)
+    tree = tables.make_tree(rng, shape, rng.between(4, 24), [1, 2, 3], 45, share)
     rng.pick(CHANGES)(rng, tree)
     return tables.flatten(tree)
 
