@@ -1,5 +1,6 @@
 # Wrong evaluators and wrong checkers, each with one slip that is easily made.
 # replay.py counts how many vectors notice each.
+import bisect
 import math
 import types
 
@@ -28,9 +29,10 @@ def tree_slip(change):
 
 
 def test_slip(change):
+    """change(tree, i, test, axis, right) says wrongly whether node i passes."""
     class Tree(meaning.Tree):
-        def passes(self, i, test):
-            return change(self, i, test, super().passes(i, test))
+        def passes(self, i, test, axis):
+            return change(self, i, test, axis, super().passes(i, test, axis))
 
     class Wrong(Slip):
         def __init__(self, *inputs):
@@ -85,11 +87,11 @@ def without_root(tree, i, axis, nodes):
     return [n for n in nodes if n != 0] if axis in (4, 6) else nodes
 
 
-def star_any(tree, i, test, right):
+def star_any(tree, i, test, axis, right):
     return True if test == 1 else right
 
 
-def name_instruction(tree, i, test, right):
+def name_instruction(tree, i, test, axis, right):
     return right or (test > 4 and tree.kind[i] == 4 and tree.name[i] == test - 16)
 
 
@@ -148,7 +150,7 @@ class UnionPredicates(Slip):
         _, _, last, axis, test = self.rows[link - 1]
         nodes = {m for n in current for m in self.tree.axis(n, axis)}
         self.charge(len(nodes))
-        kept = [n for n in nodes if self.tree.passes(n, test)]
+        kept = [n for n in nodes if self.tree.passes(n, test, axis)]
         kept.sort(reverse=axis in meaning.REVERSE)
         for p in self.chain(last):
             kept = self.keep(self.rows[p - 1][2], kept)
@@ -160,7 +162,7 @@ class OldLast(Slip):
 
     def step(self, link, node):
         _, _, last, axis, test = self.rows[link - 1]
-        nodes = [n for n in self.tree.axis(node, axis) if self.tree.passes(n, test)]
+        nodes = [n for n in self.tree.axis(node, axis) if self.tree.passes(n, test, axis)]
         self.charge(len(nodes))
         size = float(len(nodes))
         for p in self.chain(last):
@@ -177,7 +179,7 @@ class OldPositions(Slip):
 
     def step(self, link, node):
         _, _, last, axis, test = self.rows[link - 1]
-        nodes = [n for n in self.tree.axis(node, axis) if self.tree.passes(n, test)]
+        nodes = [n for n in self.tree.axis(node, axis) if self.tree.passes(n, test, axis)]
         self.charge(len(nodes))
         kept = list(enumerate(nodes))
         for p in self.chain(last):
@@ -193,7 +195,7 @@ class BackwardPredicates(Slip):
 
     def step(self, link, node):
         _, _, last, axis, test = self.rows[link - 1]
-        nodes = [n for n in self.tree.axis(node, axis) if self.tree.passes(n, test)]
+        nodes = [n for n in self.tree.axis(node, axis) if self.tree.passes(n, test, axis)]
         self.charge(len(nodes))
         for p in reversed(self.chain(last)):
             nodes = self.keep(self.rows[p - 1][2], nodes)
@@ -209,7 +211,150 @@ class TestAfter(Slip):
         self.charge(len(nodes))
         for p in self.chain(last):
             nodes = self.keep(self.rows[p - 1][2], nodes)
-        return [n for n in nodes if self.tree.passes(n, test)]
+        return [n for n in nodes if self.tree.passes(n, test, axis)]
+
+
+# ---- W-209 ----
+
+ATTRIBUTE, ATTRIBUTE_AXIS = meaning.ATTRIBUTE, meaning.ATTRIBUTE_AXIS
+
+
+def is_attribute(tree, i):
+    return tree.kind[i] == ATTRIBUTE
+
+
+def held_between(tree, low, high):
+    """The attributes from row low to before row high."""
+    if not hasattr(tree, "held"):
+        tree.held = [j for j in range(tree.count) if is_attribute(tree, j)]
+    return tree.held[bisect.bisect_left(tree.held, low):bisect.bisect_left(tree.held, high)]
+
+
+def lying(tree, i, axis):
+    """The attributes that would lie on an axis if they were children."""
+    end = i + tree.size[i] + 1
+    if axis == 1:
+        return tree.attributes[i]
+    if axis in (3, 5):
+        return held_between(tree, i + 1, end)
+    if axis == 7:
+        return held_between(tree, end, tree.count)
+    if axis == 8:
+        return held_between(tree, 0, i)
+    beside = tree.attributes[tree.parent[i]] if axis in (9, 10) and i > 0 else []
+    return [j for j in beside if j != i and (j > i) == (axis == 9)]
+
+
+def with_attributes(tree, i, axis, nodes):
+    return sorted([*nodes, *lying(tree, i, axis)], reverse=axis in meaning.REVERSE)
+
+
+def attributes_on(*axes):
+    return lambda tree, i, axis, nodes: with_attributes(tree, i, axis, nodes) if axis in axes else nodes
+
+
+def from_attribute(wrong):
+    """wrong(tree, i, axis, nodes) gives the axes of attributes alone."""
+    return lambda tree, i, axis, nodes: wrong(tree, i, axis, nodes) if is_attribute(tree, i) else nodes
+
+
+def elements_following(tree, i, axis, nodes):
+    return tree.axis(tree.parent[i], 7) if axis == 7 else nodes
+
+
+def element_preceding(tree, i, axis, nodes):
+    return [tree.parent[i], *nodes] if axis == 8 else nodes
+
+
+def nothing_on(*axes):
+    return lambda tree, i, axis, nodes: [] if axis in axes else nodes
+
+
+def not_itself(tree, i, axis, nodes):
+    return [n for n in nodes if n != i] if axis in (5, 6) else nodes
+
+
+def row_above(tree, i, axis, nodes):
+    """The parent is the row before."""
+    return [i - 1] if axis == 2 else nodes
+
+
+def child_siblings(tree, i, axis, nodes):
+    """The element's children follow an attribute as siblings."""
+    return tree.children[tree.parent[i]] if axis == 9 else nodes
+
+
+def elements_attributes(tree, i, axis, nodes):
+    return tree.attributes[tree.parent[i]] if axis == ATTRIBUTE_AXIS else nodes
+
+
+def downwards(tree, i, axis, nodes):
+    return list(reversed(nodes)) if axis == ATTRIBUTE_AXIS else nodes
+
+
+def first_attribute(tree, i, axis, nodes):
+    return nodes[:1] if axis == ATTRIBUTE_AXIS else nodes
+
+
+def inner_attributes(tree, i, axis, nodes):
+    """Those of the elements inside too."""
+    inside = range(i + 1, i + tree.size[i] + 1)
+    return [j for j in inside if is_attribute(tree, j)] if axis == ATTRIBUTE_AXIS else nodes
+
+
+def elements_only(tests):
+    """These tests match elements only, on the attribute axis too."""
+    return lambda tree, i, test, axis, right: right and not (is_attribute(tree, i) and tests(test))
+
+
+def attributes_too(tests):
+    """These tests match attributes on every axis."""
+    def change(tree, i, test, axis, right):
+        return right or (is_attribute(tree, i) and tests(test) and test in (1, 16 + tree.name[i]))
+    return change
+
+
+def is_star(test):
+    return test == 1
+
+
+def is_name(test):
+    return test > 4
+
+
+def text_of_attribute(tree, i, test, axis, right):
+    return right or (test == 2 and is_attribute(tree, i))
+
+
+def name_as_star(tree, i, test, axis, right):
+    return right or (is_name(test) and axis == ATTRIBUTE_AXIS)
+
+
+class NodeLeavesOut(Slip):
+    """node() matches no attribute."""
+
+    def step(self, link, node):
+        _, _, last, axis, test = self.rows[link - 1]
+        nodes = self.tree.axis(node, axis)
+        self.charge(len(nodes))
+        kept = self.tree.others(nodes) if test == 0 else [n for n in nodes if self.tree.passes(n, test, axis)]
+        for p in self.chain(last):
+            kept = self.keep(self.rows[p - 1][2], kept)
+        return kept
+
+
+class AttributePositions(Slip):
+    """Positions count attributes on axes where none lies."""
+
+    def step(self, link, node):
+        _, _, last, axis, test = self.rows[link - 1]
+        right = list(self.tree.axis(node, axis))
+        nodes = with_attributes(self.tree, node, axis, right)
+        self.charge(len(nodes))
+        kept = [n for n in nodes if self.tree.passes(n, test, axis)]
+        for p in self.chain(last):
+            kept = self.keep(self.rows[p - 1][2], kept)
+        return [n for n in kept if n in right]
 
 
 class RoundedPosition(Slip):
@@ -390,6 +535,161 @@ def checked_first(**left_out):
     return check
 
 
+# ---- W-209 ----
+
+def has_kind(table, i, kind):
+    return i > 0 and table[4 * i] == kind
+
+
+def behind_inner(table, i, parent):
+    """Behind any attribute, whosever it is."""
+    return checker.attribute_stands(table, i, parent) or has_kind(table, i - 1, ATTRIBUTE)
+
+
+def behind_element(table, i, parent):
+    """Behind any element, whether that is its parent or not."""
+    return checker.attribute_stands(table, i, parent) or has_kind(table, i - 1, meaning.ELEMENT)
+
+
+def behind_remark(table, i, parent):
+    """Comments and instructions may stand before attributes."""
+    before = table[4 * i - 4]
+    return checker.attribute_stands(table, i, parent) or (before in (3, 4) and table[4 * i - 2] == parent)
+
+
+def of_root(table, i, parent):
+    return checker.attribute_stands(table, i, parent) or parent == 0
+
+
+def only_first(table, i, parent):
+    """An element has one attribute at most."""
+    return parent == i - 1 and table[4 * i - 4] == meaning.ELEMENT
+
+
+def child_before_attribute(table, i, kind, parent):
+    """A child with an attribute behind it is broken, not the attribute."""
+    rows = range(i + 1, len(table) // 4)
+    if kind != ATTRIBUTE:
+        return not any(table[4 * j] == ATTRIBUTE and table[4 * j + 2] == parent for j in rows)
+    return not checker.attribute_repeated(table, i, parent)
+
+
+def same_name_before(table, i, parent):
+    """Only neighbours are compared."""
+    return table[4 * i - 4:4 * i - 1] == table[4 * i:4 * i + 3]
+
+
+def same_name_first(table, i, parent):
+    """Only the element's first attribute is compared."""
+    return i > parent + 1 and table[4 * parent + 5] == table[4 * i + 1]
+
+
+def same_name_later(table, i, parent):
+    """Each but the last is broken."""
+    same = table[4 * i:4 * i + 3]
+    return any(table[4 * j:4 * j + 3] == same for j in range(i + 1, len(table) // 4))
+
+
+def same_name_anywhere(table, i, parent):
+    return any(table[4 * j:4 * j + 2] == table[4 * i:4 * i + 2] for j in range(1, i))
+
+
+def same_name_low(bits):
+    """Names are compared in their lowest bits."""
+    def repeated(table, i, parent):
+        names = [table[4 * j + 1] for j in range(parent + 1, i) if table[4 * j:4 * j + 3:2] == [ATTRIBUTE, parent]]
+        return any(name % (1 << bits) == table[4 * i + 1] % (1 << bits) for name in names)
+    return repeated
+
+
+def named_like_element(table, i, parent):
+    return checker.attribute_repeated(table, i, parent) or table[4 * parent + 1] == table[4 * i + 1]
+
+
+def names_ascend(table, i, parent):
+    return table[4 * i - 4] == ATTRIBUTE and table[4 * i - 3] >= table[4 * i + 1]
+
+
+def kind_slip(allowed):
+    """allowed(kind, name, size): rows that are taken for sound beside the others."""
+    return lambda kind, name, size: checker.kind_sound(kind, name, size) or allowed(kind, name, size)
+
+
+def no_attributes(kind, name, size):
+    return kind != ATTRIBUTE and checker.kind_sound(kind, name, size)
+
+
+def uncounted_parent(table, i, parent, size):
+    """An attribute may stand behind its element's size."""
+    return table[4 * i] == ATTRIBUTE or checker.parent_sound(table, i, parent, size)
+
+
+def turn_slip(judge):
+    """judge(rows, steps, others, answer): 13 told in another way; others is the
+    answer where the attribute axis is no cause."""
+    def turn(path, literals, room):
+        number, place = checker.check_path(path, literals)
+        if number != 0:
+            return number, place, []
+        rows = checker.path_rows(path)
+        steps = checker.chain(rows, rows[-1][1])
+        return judge(rows, steps, unrefused(path, literals, room), checker.turn(path, literals, room))
+    return turn
+
+
+def unrefused(path, literals, room):
+    """Turning if axis 11 were its own inverse: no 13."""
+    axes = dict(checker.INVERSE)
+    axes[ATTRIBUTE_AXIS] = ATTRIBUTE_AXIS
+    return checker_copy(ATTRIBUTE_AXIS=-1, INVERSE=axes).turn(path, literals, room)
+
+
+def held_steps(rows, steps):
+    return [i + 1 for i, s in enumerate(steps) if rows[s][3] == ATTRIBUTE_AXIS]
+
+
+def after(*numbers):
+    """These are looked at before 13."""
+    return lambda rows, steps, others, answer: others if others[0] in numbers else answer
+
+
+def before_counting(rows, steps, others, answer):
+    held = held_steps(rows, steps)
+    return (13, held[0], []) if held else answer
+
+
+def lower_step(rows, steps, others, answer):
+    """9 and 13 together: the lower step is given."""
+    held = held_steps(rows, steps)
+    return (13, held[0], []) if answer[0] == 9 and held and held[0] < answer[1] else answer
+
+
+def placed_13(place):
+    """place(rows, steps) instead of the first step's number."""
+    return lambda rows, steps, others, answer: (13, place(rows, steps), []) if answer[0] == 13 else answer
+
+
+def inner_13(rows, steps, others, answer):
+    """Axis 11 inside predicates is refused too."""
+    inside = any(row[0] == 24 and row[3] == ATTRIBUTE_AXIS for row in rows)
+    return (13, 1, []) if answer[0] in (0, 10, 11) and inside else answer
+
+
+def view_without_attributes(table, entries, node):
+    right = checker.view(table, entries, node)
+    if right is None:
+        return None
+    begin, _, inside = right
+    kept = [v for v in inside if table[4 * v] != ATTRIBUTE]
+    return (begin, len(kept), kept) if kept else None
+
+
+def view_of_attribute(table, entries, node):
+    """The view of an attribute is empty."""
+    right = checker.view(table, entries, node)
+    return None if right is not None and table[4 * node] == ATTRIBUTE else right
+
+
 def untested_turned(rows):
     """The leading self step tests nothing."""
     right = checker.turned_rows(rows)
@@ -469,6 +769,36 @@ EVALUATORS = {
     "inner absolute path relative": InnerAbsolute,
     "only the first step": FirstStep,
     "inner position() from outside": InnerPosition,
+    "attributes on child": tree_slip(attributes_on(1)),
+    "attributes on descendant": tree_slip(attributes_on(3)),
+    "attributes on descendant-or-self": tree_slip(attributes_on(5)),
+    "attributes on following": tree_slip(attributes_on(7)),
+    "attributes on preceding": tree_slip(attributes_on(8)),
+    "attributes on following-sibling": tree_slip(attributes_on(9)),
+    "attributes on preceding-sibling": tree_slip(attributes_on(10)),
+    "children follow as siblings": tree_slip(from_attribute(child_siblings)),
+    "following of the element": tree_slip(from_attribute(elements_following)),
+    "preceding with the element": tree_slip(from_attribute(element_preceding)),
+    "nothing follows an attribute": tree_slip(from_attribute(nothing_on(7))),
+    "nothing precedes an attribute": tree_slip(from_attribute(nothing_on(8))),
+    "attribute without parent": tree_slip(from_attribute(nothing_on(2))),
+    "attribute without ancestors": tree_slip(from_attribute(nothing_on(4))),
+    "attribute not on its self": tree_slip(from_attribute(nothing_on(0))),
+    "attribute not on its or-self axes": tree_slip(from_attribute(not_itself)),
+    "parent is the row before": tree_slip(from_attribute(row_above)),
+    "attribute has its element's": tree_slip(from_attribute(elements_attributes)),
+    "attribute axis empty": tree_slip(nothing_on(ATTRIBUTE_AXIS)),
+    "attribute axis downwards": tree_slip(downwards),
+    "attribute axis has the first only": tree_slip(first_attribute),
+    "attribute axis goes deeper": tree_slip(inner_attributes),
+    "* matches no attribute": test_slip(elements_only(is_star)),
+    "names match no attribute": test_slip(elements_only(is_name)),
+    "node() matches no attribute": NodeLeavesOut,
+    "* matches attributes everywhere": test_slip(attributes_too(is_star)),
+    "names match attributes everywhere": test_slip(attributes_too(is_name)),
+    "text() matches attributes": test_slip(text_of_attribute),
+    "any name matches on axis 11": test_slip(name_as_star),
+    "positions count attributes": AttributePositions,
 }
 
 CHECKERS = {
@@ -491,6 +821,44 @@ CHECKERS = {
     "only root's elements looked for": dict(has_element=has_root_element),
     "no element looked at last": dict(check_table=checked_first(has_element=always)),
     "W-206 after the older rules": dict(check_table=checked_first(has_element=always, document_sound=always)),
+    "second attribute of a name allowed": dict(attribute_repeated=lambda table, i, parent: False),
+    "only neighbouring names compared": dict(attribute_repeated=same_name_before),
+    "only the first name compared": dict(attribute_repeated=same_name_first),
+    "earlier of two names broken": dict(attribute_repeated=same_name_later),
+    "a name once in the table": dict(attribute_repeated=same_name_anywhere),
+    "names compared in 8 bits": dict(attribute_repeated=same_name_low(8)),
+    "names compared in 12 bits": dict(attribute_repeated=same_name_low(12)),
+    "attribute not named as its element": dict(attribute_repeated=named_like_element),
+    "names of attributes ascend": dict(attribute_repeated=names_ascend),
+    "attribute behind a child allowed": dict(attribute_stands=always),
+    "attribute behind an inner allowed": dict(attribute_stands=behind_inner),
+    "attribute behind element allowed": dict(attribute_stands=behind_element),
+    "attribute behind comment allowed": dict(attribute_stands=behind_remark),
+    "attribute of the root allowed": dict(attribute_stands=of_root),
+    "one attribute at most": dict(attribute_stands=only_first),
+    "child before attribute broken": dict(attribute_sound=child_before_attribute),
+    "attribute outside its element": dict(parent_sound=uncounted_parent),
+    "attribute of any size": dict(kind_sound=kind_slip(lambda k, name, size: k == 5 and 1 <= name <= 65535)),
+    "attribute without name": dict(kind_sound=kind_slip(lambda k, name, size: [k, name, size] == [5, 0, 0])),
+    "attribute's name above 65,535": dict(kind_sound=kind_slip(lambda k, name, size: [k, size] == [5, 0] and name > 0)),
+    "kind 5 refused": dict(kind_sound=no_attributes),
+    "kind 6 allowed": dict(kind_sound=kind_slip(lambda k, name, size: [k, size] == [6, 0])),
+    "W-209 after the other rules": dict(check_table=checked_first(attribute_sound=always)),
+    "axis 11 refused": dict(LAST_AXIS=10),
+    "axis 12 allowed": dict(LAST_AXIS=12),
+    "no 13": dict(turn=turn_slip(lambda rows, steps, others, answer: others)),
+    "13 before 9": dict(turn=turn_slip(before_counting)),
+    "13 after 10": dict(turn=turn_slip(after(10))),
+    "13 after 11": dict(turn=turn_slip(after(11))),
+    "9 and 13 by the lower step": dict(turn=turn_slip(lower_step)),
+    "13 at the last such step": dict(turn=turn_slip(placed_13(lambda rows, steps: held_steps(rows, steps)[-1]))),
+    "13 counts steps from 0": dict(turn=turn_slip(placed_13(lambda rows, steps: held_steps(rows, steps)[0] - 1))),
+    "13 from the end": dict(turn=turn_slip(placed_13(lambda rows, steps: len(steps) + 1 - held_steps(rows, steps)[-1]))),
+    "13 gives the row": dict(turn=turn_slip(placed_13(lambda rows, steps: steps[held_steps(rows, steps)[0] - 1]))),
+    "13 has no place": dict(turn=turn_slip(placed_13(lambda rows, steps: 0))),
+    "13 of inner steps": dict(turn=turn_slip(inner_13)),
+    "view without attributes": dict(view=view_without_attributes),
+    "view of an attribute empty": dict(view=view_of_attribute),
     "turned without testing tk": dict(turned_rows=untested_turned),
     "links of a wrong sort ignored": dict(links_of=links_of_sound),
     "65 literals looked at first": dict(bad_literal=all_literals),
