@@ -9,16 +9,16 @@ use mathlib.Core.Bool.{true, false, _&&_}
 use mathlib.Core.List.{List}
 use lib.ListN.{length, getD, set, replicate, length-set, length-replicate}
 use lib.Seq.{getD-set-same, getD-set-other}
-use lib.Dec.{T, leb, eqb, leb→le, eqb→eq}
+use lib.Dec.{T, leb, eqb, leb→le, eqb→eq, le→leb}
 use native.Mathlib.Omega.{arith}
 use Rattle.meaning.specs.Lists.{upTo, some}
 use Rattle.meaning.specs.Table.{kind, name, parentOf, rows, isAttribute, goodRoot, goodName, goodParent, amongAttributes, sameAttribute, attributeAgain}
-use Rattle.meaning.proofs.Bools.{and-l, and-r, and-i, truly, untrue, same, eq→eqb, eq-or-ne}
+use Rattle.meaning.proofs.Bools.{and-l, and-r, and-i, truly, untrue, same, eq→eqb, lt-or-ge, eq-or-ne}
 use Rattle.meaning.proofs.Lists.{some-to, some-from, has-upTo-to, has-upTo-from, lowest-below}
 use Rattle.meaning.proofs.Tables.{Sound, row-holds, parent-child}
 use Rattle.meaning.proofs.DataModel.{inner, among, among-element, among-ascend}
-use Rattle.table_check.specs.Next.{firstOfKind, wellPlaced, Behind}
-use Rattle.table_check.specs.Names.{Seen}
+use Rattle.table_check.specs.Next.{wellPlaced, Behind}
+use Rattle.table_check.specs.Names.{Seen, firstLargeName}
 use Rattle.table_check.proofs.Next.{good-placed}
 
 -- each entry of a list of zeros, and what is read past its end, is 0
@@ -29,23 +29,26 @@ zeros (suc m) (suc n) = zeros m n
 
 module _ (t : List ℕ) where
   -- at row 1 none is seen: the root is no attribute
-  start : (m : ℕ) → ((j : ℕ) → j < rows t → T (isAttribute t j) → m ≡ 65536) → goodRoot t ≡ true → Seen t 1 (replicate m 0)
+  start : (m : ℕ) → ((j : ℕ) → j < rows t → T (isAttribute t j) → name t j ≤ 65535 → name t j < m) → goodRoot t ≡ true → Seen t 1 (replicate m 0)
   unfolding goodRoot
   start m room root =
       let g : T (goodRoot t) = truly root in
       let f : T (eqb (kind t 0) 0) = search (and-l, and-r) in
       record {
-        room = λ j l a. length-replicate m 0 ∙ room j l a;
+        room = λ j l a f. rw (length-replicate {A = ℕ} m 0) (room j l a f);
         some = λ n p. absurd (omega (arith, zeros m n));
         last = λ j l a. let z : j ≡ 0 = omega arith in absurd (omega (arith, eqb→eq (kind t 0) 0 f, rw z at (eqb→eq (kind t j) 5 a)));
       }
 
-  -- there is room for every name, or there are no attributes
+  -- there is room for every name, or for those below 4,096 where there are no others
   pub seen-start : goodRoot t ≡ true → Seen t 1 (replicate 65536 0)
-  seen-start = start 65536 (λ j l a. refl)
+  seen-start = start 65536 (λ j l a f. omega arith)
 
-  pub seen-none : (m : ℕ) → rows t ≤ firstOfKind t 5 → goodRoot t ≡ true → Seen t 1 (replicate m 0)
-  seen-none m none = start m (λ j l a. absurd (untrue (lowest-below (isAttribute t) (rows t) j (omega arith)) a))
+  pub seen-few : rows t ≤ firstLargeName t → goodRoot t ≡ true → Seen t 1 (replicate 4096 0)
+  seen-few none = start 4096 (λ j l a f. elim (lt-or-ge (name t j) 4096) [
+    | inl m ↦ m
+    | inr m ↦ absurd (untrue (lowest-below (λ i. isAttribute t i && leb 4096 (name t i)) (rows t) j (omega arith)) (and-i (isAttribute t j) (leb 4096 (name t j)) a (le→leb 4096 (name t j) m)))
+  ])
 
   module _ (i : ℕ) where
     -- an attribute's name is at most 65,535
@@ -59,7 +62,7 @@ module _ (t : List ℕ) where
     module _ (seen : List ℕ) (s : Seen t i seen) where
       -- so there is room for it
       pub seen-room : i < rows t → T (wellPlaced t i) → T (isAttribute t i) → name t i < length seen
-      seen-room l h a = omega (arith, name-fits h a, s .room i l a)
+      seen-room l h a = s .room i l a (omega (arith, name-fits h a))
 
       -- a sound attribute's element is the last one with its name
       pub seen-more : 0 < i → i < rows t → Sound t (i + 1) → T (isAttribute t i) → Seen t (i + 1) (set seen (name t i) (parentOf t i))
@@ -68,7 +71,7 @@ module _ (t : List ℕ) where
           let q : ℕ = parentOf t i in
           let here : getD (set seen n q) n 0 ≡ q = getD-set-same seen n q 0 (seen-room l (good-placed t i (row-holds t (i + 1) sound i p (omega arith))) a) in
           record {
-            room = λ j k b. length-set seen n q ∙ s .room j k b;
+            room = λ j k b f. simp length-set (s .room j k b f);
             some = λ m d. elim (eq-or-ne m n) [
               | inl e ↦ (i, omega arith, a, sym e, rw (e, here))
               | inr e ↦

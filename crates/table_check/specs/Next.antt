@@ -5,16 +5,13 @@ use mathlib.Core.Path.{_≡_}
 use mathlib.Core.Bool.{Bool, false, _&&_}
 use mathlib.Core.List.{List}
 use lib.ListN.{length, getD}
-use lib.Dec.{leb, eqb}
+use lib.Dec.{leb}
 use Rattle.meaning.specs.Lists.{lowest}
-use Rattle.meaning.specs.Table.{kind, name, size, rows, mostRows, end, goodName, goodSize, goodParent, broken}
+use Rattle.meaning.specs.Table.{kind, name, size, rows, mostRows, end, isElement, goodName, goodSize, goodParent, broken}
 
--- the lowest row of a kind, and the row count where there is none; that of kind 1
-abbrev pub firstOfKind : List ℕ → ℕ → ℕ
-firstOfKind t k = lowest (λ i. eqb (kind t i) k) (rows t)
-
+-- the lowest row of kind 1, and the row count where there is none
 abbrev pub firstElement : List ℕ → ℕ
-firstElement t = firstOfKind t 1
+firstElement t = lowest (isElement t) (rows t)
 
 -- what the rules ask of a row's own numbers: kinds 1 to 5, its name, its size
 abbrev pub goodNumbers : ℕ → ℕ → ℕ → Bool

@@ -1,5 +1,5 @@
 // The table checker (document 01, "The node table" and "Numbers given back"; document 02, W-206 and W-209): one look for the first element,
-// one for the first attribute and one pass over the rows, sums in 64 bits.
+// one for the first attribute with a large name and one pass over the rows, sums in 64 bits.
 use basics::at_most;
 use basics::below;
 use basics::both;
@@ -21,11 +21,14 @@ ghost use Prim.Native.Nat.{_+_, _<_, _≤_};
 ghost use Rattle.meaning.specs.Lists.{lowest};
 ghost use Rattle.meaning.specs.Table.{rows, mostRows, lengthAllowed, goodRoot, isAttribute, goodName, goodParent, textOfRoot, laterElement, textAfterText, amongAttributes, goodRow, broken};
 ghost use Rattle.meaning.specs.Promises.{ChecksTable};
-ghost use Rattle.table_check.specs.Next.{firstOfKind, firstElement, goodNumbers, wellPlaced, Behind, Next, Looked};
-ghost use Rattle.table_check.specs.Names.{Seen};
+ghost use Rattle.table_check.specs.Next.{firstElement, goodNumbers, wellPlaced, Behind, Next, Looked};
+ghost use Rattle.table_check.specs.Names.{Seen, firstLargeName};
 
 // The largest name.
 const MOST_NAME: usize = 65535;
+
+// Names below this are few enough to be looked up in a short array.
+const FEW_NAMES: usize = 4096;
 
 // 1 to 4,096 rows, and a multiple of 4.
 fn length_allowed(table: &[u32]) -> bool
@@ -36,14 +39,14 @@ fn length_allowed(table: &[u32]) -> bool
     both(some_rows, at_most(n, MOST_ROWS))
 }
 
-// The lowest row of a kind, or the row count where there is none.
-fn first_of_kind(table: &[u32], kind: usize) -> usize
-    ensures { λ r. ⌜ r ≡ firstOfKind (now (table .entry)) kind ⌝ }
+// The lowest row of kind 1, or the row count where there is none.
+fn first_element(table: &[u32]) -> usize
+    ensures { λ r. ⌜ r ≡ firstElement (now (table .entry)) ⌝ }
 {
     let n = row_count(table);
     let mut i = 0;
     while i < n {
-        if kind_at(table, i) == kind {
+        if kind_at(table, i) == 1 {
             return i;
         }
         i += 1;
@@ -213,21 +216,37 @@ fn lowest_behind_root(table: &[u32], first: usize, seen: &mut [u16]) -> usize
     n
 }
 
-// The lowest broken row, or the row count where there is none. Names are looked up only in a table that has attributes.
+// The lowest attribute whose name is none of the few, or the row count where there is none.
+fn first_large_name(table: &[u32]) -> usize
+    ensures { λ r. ⌜ r ≡ firstLargeName (now (table .entry)) ⌝ }
+{
+    let n = row_count(table);
+    let mut i = 0;
+    while i < n {
+        let large = at_most(FEW_NAMES, name_at(table, i));
+        if both(is_attribute(table, i), large) {
+            return i;
+        }
+        i += 1;
+    }
+    n
+}
+
+// The lowest broken row, or the row count where there is none. The array of all names is cleared only for a table that needs it.
 fn lowest_broken_row(table: &[u32]) -> usize
     requires { ⌜ (0 < rows (now table)) × (rows (now table) ≤ mostRows) ⌝ }
     ensures { λ r. ⌜ r ≡ lowest (broken (now (table .entry))) (rows (now (table .entry))) ⌝ }
 {
-    let first = first_of_kind(table, 1);
+    let first = first_element(table);
     if !good_root(table, first) {
         return 0;
     }
-    if first_of_kind(table, 5) < row_count(table) {
+    if first_large_name(table) < row_count(table) {
         let mut seen = [0u16; MOST_NAME + 1];
         return lowest_behind_root(table, first, &mut seen);
     }
-    let mut none = [0u16; 1];
-    lowest_behind_root(table, first, &mut none)
+    let mut seen_few = [0u16; FEW_NAMES];
+    lowest_behind_root(table, first, &mut seen_few)
 }
 
 // 1 for a length that is not allowed, 2 with the lowest broken row, 0 with the row count.

@@ -1,22 +1,21 @@
--- `table_check::first_of_kind` meets its contract: the loop's invariant is that no row below i is of the kind; the measure is what is left
+-- `table_check::first_element` meets its contract: the loop's invariant is that no row below i is an element; the measure is what is left
 -- of the rows.
 -- Assumes nothing.
 use Prim.Native.Nat.{_≤_, _-_}
 use mathlib.Core.Path.{_≡_, _∙_}
-use lib.Dec.{eqb}
 use native.Mathlib.Omega.{arith}
 use borrow.Author.Needs.{needs}
 use borrow.Author.Tests.{eq-eqb, ne-eqb}
-use Rattle.meaning.specs.Table.{rows, kind}
+use Rattle.meaning.specs.Table.{rows, isElement}
 use Rattle.meaning.proofs.Checks.{Passed, passed-start, passed-more, passed-found, passed-all}
-use Rattle.table_check.proofs.first_of_kind.Statement.{statement}
-use Rattle.table_check.proofs.first_of_kind.Tie as tie
+use Rattle.table_check.proofs.first_element.Statement.{statement}
+use Rattle.table_check.proofs.first_element.Tie as tie
 
 abbrev Inv-loop : tie.InvT-loop
-Inv-loop table kind₀ n i₀ i = (i ≤ n) × (n ≡ rows table) × Passed (λ j. eqb (kind table j) kind₀) i
+Inv-loop table n i₀ i = (i ≤ n) × (n ≡ rows table) × Passed (isElement table) i
 
 abbrev μ-loop : tie.MeasureT-loop
-μ-loop table kind₀ n i₀ i = n - i
+μ-loop table n i₀ i = n - i
 
 row-count-requires : tie.Need-row-count-requires Inv-loop μ-loop
 row-count-requires c κs = search needs
@@ -30,7 +29,7 @@ kind-at-requires c κs = omega (arith, c .before .loop .inv .1)
 returns : tie.Need-returns Inv-loop μ-loop
 returns c =
     let inv = c .before .before .before .loop .inv in
-    passed-found _ _ _ (inv .2) (omega (arith, inv .1)) (eq-eqb _ _ (rw (c .before .kind-at .ensures .0) at (c .if1 .taken)))
+    passed-found _ _ _ (inv .2) (omega (arith, inv .1)) (eq-eqb _ 1 (rw (c .before .kind-at .ensures .0) at (c .if1 .taken)))
 
 add-i : tie.Need-add-i Inv-loop μ-loop
 add-i c = search needs
@@ -41,7 +40,7 @@ loop-less c = search needs
 loop-again : tie.Need-loop-again Inv-loop μ-loop
 loop-again c =
     let inv = c .before .before .before .loop .inv in
-    (omega arith, inv .1, passed-more _ _ (inv .2) (ne-eqb _ _ (rw (c .before .kind-at .ensures .0) at (c .if1 .left))))
+    (omega arith, inv .1, passed-more _ _ (inv .2) (ne-eqb _ 1 (rw (c .before .kind-at .ensures .0) at (c .if1 .left))))
 
 returns-2 : tie.Need-returns-2 Inv-loop μ-loop
 returns-2 c =
@@ -49,8 +48,8 @@ returns-2 c =
     let e : lo .loop .i ≡ lo .before .row-count .result = omega arith in
     rw (← e) (passed-all _ _ _ (lo .loop .inv .2) (e ∙ lo .loop .inv .1))
 
-pub first-of-kind-spec : {M : Type 1} → statement M
-first-of-kind-spec =
+pub first-element-spec : {M : Type 1} → statement M
+first-element-spec =
     tie.close
     (tie.spec
     Inv-loop
