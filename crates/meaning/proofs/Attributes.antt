@@ -1,26 +1,27 @@
 -- Attributes (document 02, W-209): from a node that is no attribute only the attribute axis leads to one, so a walk without a step on it
 -- meets none. That is why demand 3 and W-208 speak of nodes that are no attributes, and lose nothing by it.
 -- Assumes nothing.
-use Prim.Native.Nat.{ℕ, _<_, _≤_}
-use mathlib.Core.Path.{_≡_, refl, _∙_}
+use Prim.Native.Nat.{ℕ, zero, suc, _+_, _-_, _<_, _≤_}
+use mathlib.Core.Path.{_≡_, sym, _∙_}
 use mathlib.Core.Logic.{inl, inr}
-use mathlib.Core.Bool.{Bool, true, false, _&&_, _||_, not}
+use mathlib.Core.Bool.{Bool, true, false, _&&_, not, cond}
 use mathlib.Core.List.{List}
+use lib.ListN.{length, getD, take, length-take}
+use lib.Seq.{slice, length-slice, getD-take, getD-drop}
 use lib.Dec.{T, leb, ltb, eqb, ltb→lt, leb→le, eqb→eq}
 use lib.Ieee.{Float}
 use native.Mathlib.Omega.{arith}
-use Rattle.meaning.specs.Lists.{some, has, upTo}
-use Rattle.meaning.specs.Table.{kind, parentOf, rows, end, isAttribute, goodRoot, siblingBefore, accepted}
-use Rattle.meaning.specs.Axis.{Axis, axisOf, lastAxis, testOf, under, inside, after, on, principal, candidates, passes}
+use Rattle.meaning.specs.Lists.{keep, some, has, upTo, placeFrom}
+use Rattle.meaning.specs.Table.{kind, parentOf, rows, end, isAttribute, goodRoot, accepted}
+use Rattle.meaning.specs.Axis.{Axis, axisOf, testOf, under, inside, after, on, isReverse, ordered, axisNodes, place, principal, candidates, passes}
 use Rattle.meaning.specs.Axis as A
-use Rattle.meaning.specs.Rows.{Op}
 use Rattle.meaning.specs.Tree.{Tree, none, node}
-use Rattle.meaning.specs.Meaning.{holds, float, keepAt, union, value, walk, filtered}
+use Rattle.meaning.specs.Meaning.{union, walk, filtered}
 use Rattle.meaning.specs.Turning.{someStep, isOfAttributes, ofAttributes}
-use Rattle.meaning.proofs.Bools.{and-l, and-r, or-e, or-none-l, or-none-r, is-false, truly, not-e, lt-or-ge}
-use Rattle.meaning.proofs.Lists.{some-to, has-keep-to, has-upTo-to, keepAt-among}
+use Rattle.meaning.proofs.Bools.{and-l, and-r, or-e, or-none-l, or-none-r, is-true, is-false, not-e, lt-or-ge, eq-or-ne}
+use Rattle.meaning.proofs.Lists.{some-to, has-keep-to, has-upTo-to, length-upTo, upTo-at, keep-slice, keep-each, keepAt-among, order-monotone, place-kept}
 use Rattle.meaning.proofs.Tables.{Plain, Child, child, root-holds, whole, some-row}
-use Rattle.meaning.proofs.DataModel.{holder, element-plain}
+use Rattle.meaning.proofs.DataModel.{attribute-parts, attribute-of, inner, holder, element-plain, among-row, among}
 use Rattle.meaning.proofs.Decoding.{principal-kind}
 use Rattle.meaning.proofs.Places.{placed, placed-on, candidate-is}
 
@@ -35,16 +36,27 @@ filtered-among t literals none l y h = h
 filtered-among t literals (node op a b c d) l y h = filtered-among t literals a l y (keepAt-among _ 1 (filtered t literals a l) y h)
 
 module _ (t : List ℕ) (acc : accepted t ≡ true) where
+  -- the root is no attribute
+  root-plain : Plain t 0
+  unfolding goodRoot
+  root-plain =
+      let g : T (goodRoot t) = root-holds t (rows t) (whole t acc) (some-row t acc) in
+      let f : T (eqb (kind t 0) 0) = search (and-l, and-r) in
+      (some-row t acc, rw (eqb→eq (kind t 0) 0 f))
+
+  -- so a path starts from no attribute if it is not handed one
+  pub start-plain : (absolute : Bool) (x : ℕ) → Plain t x → (z : ℕ) → T (has (keep (eqb (cond absolute 0 x)) (upTo (rows t))) z) → Plain t z
+  start-plain absolute x h z m = let e : cond absolute 0 x ≡ z = eqb→eq (cond absolute 0 x) z (has-keep-to (eqb (cond absolute 0 x)) (upTo (rows t)) z m .0) in rw (← e) (by absolute)
+    where
+      by : (b : Bool) → Plain t (cond b 0 x)
+      by true = root-plain
+      by false = h
+
   -- a row that holds others is no attribute
   holder-plain : (y : ℕ) → y < rows t → y < end t y → isAttribute t y ≡ false
-  unfolding goodRoot
   holder-plain y l more = elim (lt-or-ge 0 y) [
     | inl p ↦ element-plain t y (holder t (rows t) (whole t acc) y p l more)
-    | inr z ↦
-        let e : y ≡ 0 = omega arith in
-        let g : T (goodRoot t) = root-holds t (rows t) (whole t acc) (some-row t acc) in
-        let f : T (eqb (kind t 0) 0) = search (and-l, and-r) in
-        rw (e, eqb→eq (kind t 0) 0 f)
+    | inr z ↦ let e : y ≡ 0 = omega arith in rw e (root-plain .1)
   ]
 
   -- no more is one inside which another row stands
@@ -97,3 +109,37 @@ module _ (t : List ℕ) (acc : accepted t ≡ true) where
         stays-plain (axisOf c) (usual-step b c (or-none-r (ofAttributes a) (isOfAttributes b c) u)) x y
             (walk-stays-plain literals a (or-none-l (ofAttributes a) (isOfAttributes b c) u) set plain x (q .2)) (rw (placed-on t (axisOf c) x y low) at o),
       )
+
+  -- ---- where attributes stand
+
+  -- the rows from an element to one of its attributes are its attributes
+  attributes-run : (x y z : ℕ) → y < rows t → T (on t A.attribute x y) → x < z → z ≤ y → T (on t A.attribute x z)
+  attributes-run x zero z l h p q = absurd (omega arith)
+  attributes-run x (suc y) z l h p q = elim (eq-or-ne z (suc y)) [
+    | inl e ↦ rw e h
+    | inr e ↦ elim (among-row t y (among t (rows t) (whole t acc) (suc y) l (attribute-parts t x (suc y) h .2))) [
+      | inl m ↦ absurd (omega (arith, e, m .1, attribute-parts t x (suc y) h .1))
+      | inr m ↦ attributes-run x y z (omega arith) (attribute-of t x y (inner t (rows t) (whole t acc) y 4 (omega arith) (eqb→eq (kind t y) 5 (m .0))) (sym (m .1) ∙ attribute-parts t x (suc y) h .1) (m .0)) p (omega (arith, e))
+    ]
+  ]
+
+  -- so an attribute's place is how far it stands from its element
+  pub attribute-place : (x y : ℕ) → y < rows t → T (on t A.attribute x y) → place t A.attribute x y ≡ y - x
+  unfolding place axisNodes isReverse ordered
+  attribute-place x y l h =
+      let n : ℕ = rows t in
+      let p : ℕ → Bool = on t A.attribute x in
+      let front : List ℕ = take y (upTo n) in
+      let long : length front ≡ y = length-take y (upTo n) ∙ rw (length-upTo n) (omega arith) in
+      let at : (i : ℕ) → i < y → getD front i 0 ≡ i = λ i k. getD-take y (upTo n) i 0 k ∙ sym (upTo-at n i (omega arith)) in
+      let below : x < y = omega (arith, attribute-parts t x y h .1, child t acc y (attribute-parts t x y h .0) l .below) in
+      let kept : keep p front ≡ slice (x + 1) y front =
+      keep-slice p front (x + 1) y
+      (λ i k m. rw (at i (omega arith)) (is-false (p i) (λ o. absurd (omega (arith, attribute-parts t x i o .1, child t acc i (attribute-parts t x i o .0) (omega arith) .below)))))
+      (λ i k m. absurd (omega arith))
+      ∙ keep-each p (slice (x + 1) y front) (λ i k.
+      let j = rw (length-slice (x + 1) y front (omega arith)) at k in
+      rw (getD-drop (x + 1) (take y front) i 0, getD-take y front (x + 1 + i) 0 (omega arith), at (x + 1 + i) (omega arith)) (is-true (p (x + 1 + i)) (attributes-run x y (x + 1 + i) l h (omega arith) (omega arith)))) in
+      let own : getD (upTo n) y 0 ≡ y = sym (upTo-at n y l) in
+      let counted : placeFrom 1 (keep p (upTo n)) (getD (upTo n) y 0) ≡ 1 + length (keep p front) = place-kept false p (upTo n) (order-monotone false n) 1 y (rw (length-upTo n) l) (rw own (is-true (p y) h)) in
+      rw own at counted ∙ rw (kept, length-slice (x + 1) y front (omega arith)) (omega arith)

@@ -17,7 +17,7 @@ use Rattle.meaning.specs.Axis.{axisOf, testOf, on, principal}
 use Rattle.meaning.specs.Rows.{Op, code, opOf, field, firstLink, secondLink}
 use Rattle.meaning.specs.Rows as R
 use Rattle.meaning.specs.Tree.{Tree, none, node, tree, indexOrAxis, testAt}
-use Rattle.meaning.specs.Meaning.{applied, isAbsolute, startOf, union, value, select, walk}
+use Rattle.meaning.specs.Meaning.{applied, isAbsolute, startOf, value, select, walk}
 use Rattle.meaning.specs.Turning.{counting, counts, someStep}
 use Rattle.meaning.proofs.Bools.{or-none-l, or-none-r}
 use Rattle.meaning.proofs.Lists.{some-same}

@@ -24,6 +24,17 @@ use Rattle.meaning.proofs.Tables.{Sound, root-holds, row-holds, Child, 
 pub element-plain : (t : List ℕ) (i : ℕ) → T (isElement t i) → isAttribute t i ≡ false
 element-plain t i e = rw (eqb→eq (kind t i) 1 e)
 
+-- what lies on the attribute axis is not row 0, has x for its parent and is an attribute; and such a row lies there
+pub attribute-parts : (t : List ℕ) (x y : ℕ) → T (on t A.attribute x y) → (0 < y) × (parentOf t y ≡ x) × T (isAttribute t y)
+unfolding on under
+attribute-parts t x y h =
+    let u : T (under t x y) = and-l (under t x y) (isAttribute t y) h in
+    (ltb→lt 0 y (and-l (ltb 0 y) (eqb (parentOf t y) x) u), eqb→eq (parentOf t y) x (and-r (ltb 0 y) (eqb (parentOf t y) x) u), and-r (under t x y) (isAttribute t y) h)
+
+pub attribute-of : (t : List ℕ) (x y : ℕ) → 0 < y → parentOf t y ≡ x → T (isAttribute t y) → T (on t A.attribute x y)
+unfolding on under
+attribute-of t x y p e a = and-i (under t x y) (isAttribute t y) (and-i (ltb 0 y) (eqb (parentOf t y) x) (lt→ltb 0 y p) (eq→eqb (parentOf t y) x e)) a
+
 -- a row that stands among attributes has the row before it for its parent, or that one's parent
 pub among-row : (t : List ℕ) (i : ℕ) → T (amongAttributes t (suc i)) → (T (isElement t i) × (parentOf t (suc i) ≡ i)) ⊎ (T (isAttribute t i) × (parentOf t (suc i) ≡ parentOf t i))
 unfolding amongAttributes
@@ -97,12 +108,9 @@ module _ (t : List ℕ) (n : ℕ) (sound : Sound t n) where
 module _ (t : List ℕ) (acc : accepted t ≡ true) where
   -- the attribute axis is empty but for elements
   pub attributes-of-elements : (x y : ℕ) → y < rows t → T (on t A.attribute x y) → T (isElement t x)
-  unfolding on under
   attributes-of-elements x y l h =
-      let p : T (ltb 0 y) = search (and-l, and-r) in
-      let e : T (eqb (parentOf t y) x) = search (and-l, and-r) in
-      let a : T (isAttribute t y) = search (and-l, and-r) in
-      rw (← eqb→eq (parentOf t y) x e) (among-element t (rows t) (whole t acc) y (ltb→lt 0 y p) (omega arith) (among t (rows t) (whole t acc) y l a))
+      let r = attribute-parts t x y h in
+      rw (← r .1) (among-element t (rows t) (whole t acc) y (r .0) (omega arith) (among t (rows t) (whole t acc) y l (r .2)))
 
   -- the rules that an accepted table's rows keep
   keeps : (i : ℕ) → 0 < i → i < rows t → T (not (textOfRoot t i)) × T (not (laterElement t i)) × T (not (textAfterText t i)) × T (not (attributeAgain t i))
@@ -175,7 +183,7 @@ module _ (t : List ℕ) (acc : accepted t ≡ true) where
 
   -- no two attributes of one element have one name
   pub names-differ : (x y z : ℕ) → y < rows t → z < rows t → T (on t A.attribute x y) → T (on t A.attribute x z) → name t y ≡ name t z → y ≡ z
-  unfolding on under attributeAgain sameAttribute
+  unfolding attributeAgain sameAttribute
   names-differ x y z h k o q e = elim (lt-or-ge y z) [
     | inl l ↦ absurd (twice y z l k o q e)
     | inr m ↦ elim (lt-or-ge z y) [
@@ -186,10 +194,8 @@ module _ (t : List ℕ) (acc : accepted t ≡ true) where
     where
       twice : (j i : ℕ) → j < i → i < rows t → T (on t A.attribute x j) → T (on t A.attribute x i) → name t j ≡ name t i → ⊥
       twice j i l h o q e =
-          let a : T (isAttribute t j) = and-r (under t x j) (isAttribute t j) o in
-          let b : T (isAttribute t i) = and-r (under t x i) (isAttribute t i) q in
-          let f : parentOf t j ≡ x = eqb→eq (parentOf t j) x (and-r (ltb 0 j) (eqb (parentOf t j) x) (and-l (under t x j) (isAttribute t j) o)) in
-          let g : parentOf t i ≡ x = eqb→eq (parentOf t i) x (and-r (ltb 0 i) (eqb (parentOf t i) x) (and-l (under t x i) (isAttribute t i) q)) in
+          let r = attribute-parts t x j o in
+          let u = attribute-parts t x i q in
           let s : T (isAttribute t j && eqb (parentOf t j) (parentOf t i) && eqb (name t j) (name t i)) =
-          and-i (isAttribute t j && eqb (parentOf t j) (parentOf t i)) (eqb (name t j) (name t i)) (and-i (isAttribute t j) (eqb (parentOf t j) (parentOf t i)) a (eq→eqb (parentOf t j) (parentOf t i) (f ∙ sym g))) (eq→eqb (name t j) (name t i) e) in
-          not-e (attributeAgain t i) (keeps i (omega arith) h .3) (and-i (isAttribute t i) _ b (some-from (sameAttribute t i) (upTo i) j s (has-upTo-from i j l)))
+          and-i (isAttribute t j && eqb (parentOf t j) (parentOf t i)) (eqb (name t j) (name t i)) (and-i (isAttribute t j) (eqb (parentOf t j) (parentOf t i)) (r .2) (eq→eqb (parentOf t j) (parentOf t i) (r .1 ∙ sym (u .1)))) (eq→eqb (name t j) (name t i) e) in
+          not-e (attributeAgain t i) (keeps i (omega arith) h .3) (and-i (isAttribute t i) _ (u .2) (some-from (sameAttribute t i) (upTo i) j s (has-upTo-from i j l)))

@@ -2,7 +2,7 @@
 -- accepted table they select x from y exactly where the path selects y from x. The turned tree is tidy and made by the rules as the path's own is, so its written rows are accepted and
 -- read back as it; what it selects is the law of trees.
 -- Assumes nothing.
-use Prim.Native.Nat.{ℕ, zero, suc, _+_, _-_, _*_, _<_, _≤_}
+use Prim.Native.Nat.{ℕ, zero, suc, _+_, _-_, _*_, _≤_}
 use mathlib.Core.Path.{_≡_, refl, sym, subst, ap, _∙_}
 use mathlib.Core.Logic.{inl, inr}
 use mathlib.Core.Bool.{Bool, true, false, _&&_, _||_, not, cond}
@@ -18,8 +18,8 @@ use Rattle.meaning.specs.Axis.{lastAxis}
 use Rattle.meaning.specs.Rows.{Op, opOf, opAt, code, fieldsOf, isLiteral, isStep, isPath, isLink, isUnknown, mayMiss, takes, goodTest, goodField, firstLink, secondLink, rowsOf, mostPathRows}
 use Rattle.meaning.specs.Rows as R
 use Rattle.meaning.specs.Tree.{Tree, none, node, indexOrAxis, testAt, tree, depth}
-use Rattle.meaning.specs.Meaning.{isAbsolute}
-use Rattle.meaning.specs.Turning.{counting, steps, someStep, firstStep, isCounting, isOfAttributes, counts, ofAttributes, inverseOf, predicates, test, back, turned, weight, written}
+use Rattle.meaning.specs.Meaning.{isAbsolute, startOf, select}
+use Rattle.meaning.specs.Turning.{steps, someStep, firstStep, isCounting, isOfAttributes, counts, ofAttributes, inverseOf, predicates, test, back, turned, weight, written}
 use Rattle.meaning.specs.Answers.{answer, pathTree, pathAnswer, selected, countingStep, attributeStep, absolutePath, turning, turnedRows}
 use Rattle.meaning.specs.declared.Answer.{Answer}
 use Rattle.meaning.proofs.Bools.{and-l, and-r, and-i, or-e, is-true, truly, untrue, not-false, lt-or-ge}
@@ -30,6 +30,7 @@ use Rattle.meaning.proofs.Exactly.{AcceptedPath, GoodPath, Turns, Turni
 use Rattle.meaning.proofs.Paths.{some-path-row, top-is-path, all-rows}
 use Rattle.meaning.proofs.ReadBack.{Tidy, tree-tidy, length-written, written-rows, written-reads-back}
 use Rattle.meaning.proofs.Tables.{Plain}
+use Rattle.meaning.proofs.Attributes.{start-plain, walk-stays-plain}
 use Rattle.meaning.proofs.Turning.{inverse-past, turned-selects-back}
 use Rattle.meaning.proofs.Made.{Made, made, goodChild, goodHeld, goodNode}
 use Rattle.meaning.proofs.Block.{written-accepted}
@@ -232,6 +233,24 @@ module _ (p : List ℕ) (literals : List Float) where
       let k : counts s ≡ false = sym (first-step isCounting s) ∙ ap (ltb 0) (sym (ap countingStep e) ∙ h .none-counts) in
       let u : ofAttributes s ≡ false = sym (first-step isOfAttributes s) ∙ ap (ltb 0) (sym (ap attributeStep e) ∙ h .none-of-attributes) in
       round-of s b (indexOrAxis p r) (testAt p r) (e ∙ ap (λ (v : Op). node v s b (indexOrAxis p r) (testAt p r)) o) k u (h .few) (h .good)
+
+-- why demand 3 leaves attributes out and loses nothing: without a top-level step on the attribute axis a path selects from a node that is no
+-- attribute none that is one, whatever it counts and wherever it starts
+pub selects-no-attribute : (p : List ℕ) (literals : List Float) → attributeStep (pathTree p) ≡ 0 → (t : List ℕ) → accepted t ≡ true → (x : ℕ) → Plain t x
+    → (y : ℕ) → T (has (selected t p literals x) y) → Plain t y
+selects-no-attribute p literals = by (pathTree p)
+  where
+    by : (s : Tree) → attributeStep s ≡ 0 → (t : List ℕ) → accepted t ≡ true → (x : ℕ) → Plain t x → (y : ℕ) → T (has (select t literals s x) y) → Plain t y
+    by none e t acc x h y k = absurd (unfold select some in k)
+    by (node op a b c d) e t acc x h y k = walk-stays-plain t acc literals a usual (startOf t op x) from-plain y (unfold select in k)
+      where
+        usual : ofAttributes a ≡ false
+        usual =
+            let z : firstStep isOfAttributes a ≡ 0 = unfold attributeStep in e in
+            sym (first-step isOfAttributes a) ∙ ap (ltb 0) z
+
+        from-plain : (z : ℕ) → T (has (startOf t op x) z) → Plain t z
+        from-plain z m = start-plain t acc (isAbsolute op) x h z (unfold startOf in m)
 
 -- where the turned rows are turned again, the rows turned twice select y from x exactly when the path does, on every accepted table and
 -- for nodes that are no attributes

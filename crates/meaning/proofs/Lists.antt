@@ -179,10 +179,6 @@ pub keep-skip : (p : ℕ → Bool) (l : List ℕ) (x : ℕ) → p x ≡ false �
 unfolding keep
 keep-skip p l x e = keep-append p l (x ∷ []) ∙ rw e (append-nil (keep p l))
 
--- what is kept of the numbers below n is below n
-pub kept-below : (p : ℕ → Bool) (n y : ℕ) → T (has (keep p (upTo n)) y) → y < n
-kept-below p n y h = has-upTo-to n y (has-keep-to p (upTo n) y h .1)
-
 -- tests that agree on the entries keep the same ones
 pub keep-entries : (p q : ℕ → Bool) (l : List ℕ) → ((i : ℕ) → i < length l → p (getD l i 0) ≡ q (getD l i 0)) → keep p l ≡ keep q l
 unfolding keep
@@ -197,11 +193,6 @@ pub keep-none : (p : ℕ → Bool) (l : List ℕ) → ((i : ℕ) → i < length 
 unfolding keep
 keep-none p [] h = refl
 keep-none p (x ∷ xs) h = rw (h 0 (omega arith), keep-none p xs (λ i k. h (suc i) (omega arith)))
-
-pub keep-agree : (p q : ℕ → Bool) (l : List ℕ) → ((i : ℕ) → i < length l → p (getD l i 0) ≡ q (getD l i 0)) → keep p l ≡ keep q l
-unfolding keep
-keep-agree p q [] h = refl
-keep-agree p q (x ∷ xs) h = rw (h 0 (omega arith), keep-agree p q xs (λ i k. h (suc i) (omega arith)))
 
 pub keep-each : (p : ℕ → Bool) (l : List ℕ) → ((i : ℕ) → i < length l → p (getD l i 0) ≡ true) → keep p l ≡ l
 unfolding keep

@@ -16,7 +16,7 @@ use Rattle.meaning.specs.Table.{rows, end, isAttribute}
 use Rattle.meaning.specs.Axis.{inside, on, ordered, axisNodes}
 use Rattle.meaning.specs.Axis as A
 use Rattle.meaning.proofs.Bools.{eq-or-ne}
-use Rattle.meaning.proofs.Lists.{keep-slice, keep-agree, length-upTo, upTo-at}
+use Rattle.meaning.proofs.Lists.{keep-slice, keep-entries, length-upTo, upTo-at}
 use Rattle.meaning.proofs.Filters.{Chosen, chosen-start, chosen-skip, chosen-more, chosen-done}
 
 -- ---- a range of the numbers below n
@@ -41,7 +41,7 @@ module _ (n f t : ℕ) (h : t ≤ n) where
       keep-slice p (upTo n) f t
       (λ i k m. let l : i < n = rw length-upTo at k in rw (← upTo-at n i l) (before i m))
       (λ i k m. let l : i < n = rw length-upTo at k in rw (← upTo-at n i l) (behind i m l))
-      ∙ keep-agree p q (range n f t) (λ i k.
+      ∙ keep-entries p q (range n f t) (λ i k.
       let l = rw range-length at k in
       let e : f + i - f ≡ i = omega arith in
       rw (rw e at (sym (range-at (f + i) (omega arith) (omega arith)))) (between (f + i) (omega arith) (omega arith)))

@@ -40,7 +40,7 @@ after t x y = ltb x y && not (inside t x y)
 
 -- is y on the axis of x? following is every later node that is not a descendant, preceding every earlier node that
 -- is not an ancestor; siblings share a parent, the root has none. An attribute lies on no child, descendant, following, preceding or sibling
--- axis of any node, and has no siblings
+-- axis of any node, and has no siblings; it does lie on its own self and both -or-self axes
 unfoldable pub on : List ℕ → Axis → ℕ → ℕ → Bool
 on t self x y = eqb x y
 on t child x y = under t x y && not (isAttribute t y)

@@ -4,7 +4,7 @@
 -- Assumes nothing.
 use Prim.Native.Nat.{ℕ, suc, _+_, _-_, _<_, _≤_}
 use mathlib.Core.Path.{_≡_, refl, sym, ap, _∙_}
-use mathlib.Core.Logic.{_⊎_, inl, inr, ⊎-elim}
+use mathlib.Core.Logic.{_⊎_, inl, inr}
 use mathlib.Core.Bool.{Bool, true, false, _&&_, _||_, not, cond, and-true, and-false, and-assoc, or-false, or-comm, and-comm, false≢true}
 use mathlib.Core.List.{List}
 use lib.Dec.{T, leb, ltb, eqb}
@@ -165,36 +165,33 @@ swap false true c = refl
 swap false false c = refl
 
 module _ (t : List ℕ) (from : ℕ → Bool) (y : ℕ) (low : y < rows t) where
-  pub under-met : Rooted t → (ltb 0 y && from (parentOf t y)) ≡ met t (under t) from y
-  unfolding under
-  under-met h = sym
-      (some-below (λ x. from x && (ltb 0 y && eqb (parentOf t y) x)) (λ x. (ltb 0 y && from x) && eqb x (parentOf t y)) (rows t) (λ x l. rw (eqb-sym (parentOf t y) x) (regroup (from x) (ltb 0 y) (eqb x (parentOf t y))))
-      ∙ some-at (λ x. ltb 0 y && from x) (rows t) (parentOf t y) (omega (arith, rooted t h y low)))
-    where
-      regroup : (a b c : Bool) → (a && (b && c)) ≡ ((b && a) && c)
-      regroup a true c = refl
-      regroup a false c = and-false a
-
   -- inside another: some end of a row behind y is not before it
-  pub inside-met : (v : ℕ → Bool) → Gathered (beyond + 1) (λ x z. ltb z (end t x + 1)) from (upTo y) v → y ≤ beyond → v y ≡ met t (inside t) from y
+  inside-met : (v : ℕ → Bool) → Gathered (beyond + 1) (λ x z. ltb z (end t x + 1)) from (upTo y) v → y ≤ beyond → v y ≡ met t (inside t) from y
   unfolding Gathered inside
   inside-met v h b = h y (omega arith) ∙ sym
       (some-below (λ x. from x && (ltb x y && leb y (end t x))) (λ x. ltb x y && (from x && ltb y (end t x + 1))) (rows t) (λ x l. rw (leb-ltb y (end t x)) (swap (from x) (ltb x y) (ltb y (end t x + 1))))
       ∙ window-below (λ x. from x && ltb y (end t x + 1)) (rows t) y (omega arith))
 
   -- around another: the nearest row after y is not past its end
-  pub around-met : (v : ℕ → Bool) → Gathered (beyond + 1) ltb from (upFrom (y + 1) (rows t - (y + 1))) v → end t y < beyond → v (end t y + 1) ≡ met t (λ x z. inside t z x) from y
+  around-met : (v : ℕ → Bool) → Gathered (beyond + 1) ltb from (upFrom (y + 1) (rows t - (y + 1))) v → end t y < beyond → v (end t y + 1) ≡ met t (λ x z. inside t z x) from y
   unfolding Gathered inside
   around-met v h b = h (end t y + 1) (omega arith) ∙ sym
       (some-below (λ x. from x && (ltb y x && leb x (end t y))) (λ x. ltb y x && (from x && ltb x (end t y + 1))) (rows t) (λ x l. rw (leb-ltb x (end t y)) (swap (from x) (ltb y x) (ltb x (end t y + 1))))
       ∙ window-above (λ x. from x && ltb x (end t y + 1)) (rows t) y)
 
 module _ (t : List ℕ) (from : List Bool) (y : ℕ) (low : y < rows t) where
-  -- the same of marks
+  -- the parent was marked
   pub under-hit : Rooted t → (ltb 0 y && getD from (parentOf t y) false) ≡ hit t (under t) from y
-  unfolding hit
-  under-hit h = under-met t (marked from) y low h
+  unfolding hit under
+  under-hit h = sym
+      (some-below (λ x. getD from x false && (ltb 0 y && eqb (parentOf t y) x)) (λ x. (ltb 0 y && getD from x false) && eqb x (parentOf t y)) (rows t) (λ x l. rw (eqb-sym (parentOf t y) x) (regroup (getD from x false) (ltb 0 y) (eqb x (parentOf t y))))
+      ∙ some-at (λ x. ltb 0 y && getD from x false) (rows t) (parentOf t y) (omega (arith, rooted t h y low)))
+    where
+      regroup : (a b c : Bool) → (a && (b && c)) ≡ ((b && a) && c)
+      regroup a true c = refl
+      regroup a false c = and-false a
 
+  -- inside and around, of marks: those taken, and those that give
   pub inside-hit : (own attributes : Bool) (v : ℕ → Bool) → Gathered (beyond + 1) (λ x z. ltb z (end t x + 1)) (marked from) (upTo y) v → y ≤ beyond
       → ((own && getD from y false) || (v y && admitted t true attributes y)) ≡ hit t (λ x z. (own && eqb x z) || (inside t x z && admitted t true attributes z)) from y
   inside-hit own attributes v h b =

@@ -10,7 +10,7 @@ use Rattle.meaning.specs.Table.{rows}
 use Rattle.meaning.specs.Axis.{under}
 use Rattle.meaning.proofs.Marks.{WroteDown, down-start, down-more, down-ahead}
 use Rattle.reach.specs.Reach.{hit, admitted}
-use Rattle.reach.proofs.Sweep.{marked, rooted, under-met, under-hit, hit-take, down-hits}
+use Rattle.reach.proofs.Sweep.{rooted, under-hit, hit-take, down-hits}
 use Rattle.reach.proofs.mark_under.Statement.{statement}
 use Rattle.reach.proofs.mark_under.Tie as tie
 
