@@ -1,12 +1,11 @@
 # W-209: where attributes may stand. Tables that break one of its rules or
 # several, and sound ones that nearly do. The answers of the fixed ones are
 # known beforehand; those of the random ones come from checker.py.
-import checker
 import damage
 import selection
 import tables
 from tables import ATTRIBUTE, ELEMENT
-from wellformed import KIND, NAME, PARENT, SIZE, TOP, changed, drawn
+from wellformed import KIND, NAME, PARENT, SIZE, TOP, ask_known, changed, drawn
 
 EXAMPLES = [
     (selection.WITH_ATTRIBUTES, (0, 9)),
@@ -188,11 +187,6 @@ def random_table(rng):
 
 
 def add_cases(rng, sheet):
-    for table, answer in fixed_tables():
-        assert checker.check_table(table) == answer
-        damage.ask_table(rng, sheet, table)
-    for table, _ in EXAMPLES:
-        damage.ask_evaluate(rng, sheet, table, damage.GOOD_PATH, [], 0)
-        sheet.view("damage", table, 1, [1, 2], checker.view(table, [1, 2], 1))
+    ask_known(rng, sheet, fixed_tables(), EXAMPLES, 1, [1, 2])
     for _ in range(80):
         damage.ask_table(rng, sheet, random_table(rng))

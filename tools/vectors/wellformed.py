@@ -167,12 +167,17 @@ def refused_table(rng):
             return table
 
 
-def add_cases(rng, sheet):
-    for table, answer in fixed_tables():
+def ask_known(rng, sheet, fixed, examples, node, listed):
+    """Tables whose answers are known beforehand, and some of them with a path and with the view of a list in a node."""
+    for table, answer in fixed:
         assert checker.check_table(table) == answer
         damage.ask_table(rng, sheet, table)
-    for table, _ in EXAMPLES:
+    for table, _ in examples:
         damage.ask_evaluate(rng, sheet, table, damage.GOOD_PATH, [], 0)
-        sheet.view("damage", table, 0, [0], checker.view(table, [0], 0))
+        sheet.view("damage", table, node, listed, checker.view(table, listed, node))
+
+
+def add_cases(rng, sheet):
+    ask_known(rng, sheet, fixed_tables(), EXAMPLES, 0, [0])
     for _ in range(24):
         damage.ask_table(rng, sheet, refused_table(rng))
