@@ -1,3 +1,4 @@
 mod Next
 mod Siblings
+mod Stops
 mod Names

@@ -7,19 +7,19 @@ use mathlib.Core.Path.{_≡_, refl, sym, _∙_}
 use mathlib.Core.Logic.{inl, inr}
 use mathlib.Core.Bool.{true, false, _&&_}
 use mathlib.Core.List.{List}
-use lib.ListN.{length, getD, set, replicate, length-set, length-replicate}
+use lib.ListN.{length, getD, set, replicate}
 use lib.Seq.{getD-set-same, getD-set-other}
-use lib.Dec.{T, leb, eqb, leb→le, eqb→eq, le→leb}
+use lib.Dec.{T, eqb, eqb→eq}
 use native.Mathlib.Omega.{arith}
 use Rattle.meaning.specs.Lists.{upTo, some}
-use Rattle.meaning.specs.Table.{kind, name, parentOf, rows, isAttribute, goodRoot, goodName, goodParent, amongAttributes, sameAttribute, attributeAgain}
-use Rattle.meaning.proofs.Bools.{and-l, and-r, and-i, truly, untrue, same, eq→eqb, lt-or-ge, eq-or-ne}
-use Rattle.meaning.proofs.Lists.{some-to, some-from, has-upTo-to, has-upTo-from, lowest-below}
-use Rattle.meaning.proofs.Tables.{Sound, row-holds, parent-child}
+use Rattle.meaning.specs.Table.{kind, name, parentOf, isAttribute, goodRoot, goodParent, amongAttributes, sameAttribute, attributeAgain}
+use Rattle.meaning.proofs.Bools.{and-l, and-r, and-i, truly, untrue, same, eq→eqb, eq-or-ne}
+use Rattle.meaning.proofs.Lists.{some-to, some-from, has-upTo-to, has-upTo-from}
+use Rattle.meaning.proofs.Tables.{Sound, parent-child}
 use Rattle.meaning.proofs.DataModel.{inner, among, among-element, among-ascend}
-use Rattle.table_check.specs.Next.{wellPlaced, Behind}
-use Rattle.table_check.specs.Names.{Seen, firstLargeName}
-use Rattle.table_check.proofs.Next.{good-placed}
+use Rattle.table_check.specs.Next.{Behind}
+use Rattle.table_check.specs.Names.{Seen}
+use Rattle.table_check.proofs.Stops.{root-plain}
 
 -- each entry of a list of zeros, and what is read past its end, is 0
 zeros : (m n : ℕ) → getD {A = ℕ} (replicate m 0) n 0 ≡ 0
@@ -29,102 +29,72 @@ zeros (suc m) (suc n) = zeros m n
 
 module _ (t : List ℕ) where
   -- at row 1 none is seen: the root is no attribute
-  start : (m : ℕ) → ((j : ℕ) → j < rows t → T (isAttribute t j) → name t j ≤ 65535 → name t j < m) → goodRoot t ≡ true → Seen t 1 (replicate m 0)
-  unfolding goodRoot
-  start m room root =
-      let g : T (goodRoot t) = truly root in
-      let f : T (eqb (kind t 0) 0) = search (and-l, and-r) in
-      record {
-        room = λ j l a f. rw (length-replicate {A = ℕ} m 0) (room j l a f);
-        some = λ n p. absurd (omega (arith, zeros m n));
-        last = λ j l a. let z : j ≡ 0 = omega arith in absurd (omega (arith, eqb→eq (kind t 0) 0 f, rw z at (eqb→eq (kind t j) 5 a)));
-      }
+  pub seen-start : (k : ℕ) → goodRoot t ≡ true → Seen t 1 (replicate k 0)
+  seen-start k root = record {
+    some = λ n p. absurd (omega (arith, zeros k n));
+    last = λ j l a. let z : j ≡ 0 = omega arith in absurd (untrue (root-plain t (truly root)) (rw z at a));
+  }
 
-  -- there is room for every name, or for those below 4,096 where there are no others
-  pub seen-start : goodRoot t ≡ true → Seen t 1 (replicate 65536 0)
-  seen-start = start 65536 (λ j l a f. omega arith)
+  module _ (i : ℕ) (seen : List ℕ) (s : Seen t i seen) where
+    -- a sound attribute's element is the last one with its name
+    pub seen-more : 0 < i → Sound t (i + 1) → T (isAttribute t i) → name t i < length seen → Seen t (i + 1) (set seen (name t i) (parentOf t i))
+    seen-more p sound a fits =
+        let n : ℕ = name t i in
+        let q : ℕ = parentOf t i in
+        let here : getD (set seen n q) n 0 ≡ q = getD-set-same seen n q 0 fits in
+        record {
+          some = λ m d. elim (eq-or-ne m n) [
+            | inl e ↦ (i, omega arith, a, sym e, rw (e, here))
+            | inr e ↦
+                let w = s .some m (rw (getD-set-other seen n m q 0 e) at d) in
+                (w .0, omega (arith, w .1), w .2, w .3, rw (getD-set-other seen n m q 0 e) (w .4))
+          ];
+          last = λ j k b. elim (eq-or-ne (name t j) n) [
+            | inl e ↦ rw (e, here) (elim (eq-or-ne j i) [
+              | inl z ↦ rw z (omega arith)
+              | inr z ↦ among-ascend t (i + 1) sound i p (omega arith) (among t (i + 1) sound i (omega arith) a) j (omega (arith, z)) b
+            ])
+            | inr e ↦ rw (getD-set-other seen n (name t j) q 0 e) (s .last j (elim (eq-or-ne j i) [
+              | inl z ↦ absurd (e (rw z))
+              | inr z ↦ omega (arith, z)
+            ]) b)
+          ];
+        }
 
-  pub seen-few : rows t ≤ firstLargeName t → goodRoot t ≡ true → Seen t 1 (replicate 4096 0)
-  seen-few none = start 4096 (λ j l a f. elim (lt-or-ge (name t j) 4096) [
-    | inl m ↦ m
-    | inr m ↦ absurd (untrue (lowest-below (λ i. isAttribute t i && leb 4096 (name t i)) (rows t) j (omega arith)) (and-i (isAttribute t j) (leb 4096 (name t j)) a (le→leb 4096 (name t j) m)))
-  ])
+    -- any other row leaves what is seen
+    pub seen-other : isAttribute t i ≡ false → Seen t (i + 1) seen
+    seen-other plain = record {
+      some = λ n d. let w = s .some n d in (w .0, omega (arith, w .1), w .2, w .3, w .4);
+      last = λ j k b. elim (eq-or-ne j i) [
+        | inl z ↦ absurd (untrue plain (rw z at b))
+        | inr z ↦ s .last j (omega (arith, z)) b
+      ];
+    }
 
-  module _ (i : ℕ) where
-    -- an attribute's name is at most 65,535
-    name-fits : T (wellPlaced t i) → T (isAttribute t i) → name t i < 65536
-    unfolding goodName
-    name-fits h a =
-        let g : T (goodName (kind t i) (name t i)) = search (and-l, and-r) in
-        let b : T (leb 1 (name t i) && leb (name t i) 65535) = rw (eqb→eq (kind t i) 5 a) at g in
-        omega (arith, leb→le (name t i) 65535 (and-r (leb 1 (name t i)) (leb (name t i) 65535) b))
-
-    module _ (seen : List ℕ) (s : Seen t i seen) where
-      -- so there is room for it
-      pub seen-room : i < rows t → T (wellPlaced t i) → T (isAttribute t i) → name t i < length seen
-      seen-room l h a = s .room i l a (omega (arith, name-fits h a))
-
-      -- a sound attribute's element is the last one with its name
-      pub seen-more : 0 < i → i < rows t → Sound t (i + 1) → T (isAttribute t i) → Seen t (i + 1) (set seen (name t i) (parentOf t i))
-      seen-more p l sound a =
-          let n : ℕ = name t i in
-          let q : ℕ = parentOf t i in
-          let here : getD (set seen n q) n 0 ≡ q = getD-set-same seen n q 0 (seen-room l (good-placed t i (row-holds t (i + 1) sound i p (omega arith))) a) in
-          record {
-            room = λ j k b f. simp length-set (s .room j k b f);
-            some = λ m d. elim (eq-or-ne m n) [
-              | inl e ↦ (i, omega arith, a, sym e, rw (e, here))
-              | inr e ↦
-                  let w = s .some m (rw (getD-set-other seen n m q 0 e) at d) in
-                  (w .0, omega (arith, w .1), w .2, w .3, rw (getD-set-other seen n m q 0 e) (w .4))
-            ];
-            last = λ j k b. elim (eq-or-ne (name t j) n) [
-              | inl e ↦ rw (e, here) (elim (eq-or-ne j i) [
-                | inl z ↦ rw z (omega arith)
-                | inr z ↦ among-ascend t (i + 1) sound i p (omega arith) (among t (i + 1) sound i (omega arith) a) j (omega (arith, z)) b
-              ])
-              | inr e ↦ rw (getD-set-other seen n (name t j) q 0 e) (s .last j (elim (eq-or-ne j i) [
-                | inl z ↦ absurd (e (rw z))
-                | inr z ↦ omega (arith, z)
-              ]) b)
-            ];
-          }
-
-      -- any other row leaves what is seen
-      pub seen-other : isAttribute t i ≡ false → Seen t (i + 1) seen
-      seen-other plain = record {
-        room = s .room;
-        some = λ n d. let w = s .some n d in (w .0, omega (arith, w .1), w .2, w .3, w .4);
-        last = λ j k b. elim (eq-or-ne j i) [
-          | inl z ↦ absurd (untrue plain (rw z at b))
-          | inr z ↦ s .last j (omega (arith, z)) b
-        ];
-      }
-
-      -- an attribute is there again exactly if its element is the last one with its name
-      pub again-seen : Behind t i → goodParent t i ≡ true → T (isAttribute t i) → T (amongAttributes t i) → attributeAgain t i ≡ eqb (getD seen (name t i) 0) (parentOf t i)
-      unfolding attributeAgain sameAttribute
-      again-seen b g a h =
-          let n : ℕ = name t i in
-          let q : ℕ = parentOf t i in
-          let below : q < i = parent-child t i (truly g) .below in
-          let some-row : 0 < q = inner t i (b .sound) q 0 below (eqb→eq (kind t q) 1 (among-element t i (b .sound) i (b .inner) (omega arith) h)) in
-          same (attributeAgain t i) (eqb (getD seen n 0) q)
-          (λ r.
-          let w = some-to (sameAttribute t i) (upTo i) (and-r (isAttribute t i) (some (sameAttribute t i) (upTo i)) r) in
-          let j : ℕ = w .0 in
-          let v : T (isAttribute t j && eqb (parentOf t j) q && eqb (name t j) n) = w .1 in
-          let c : T (isAttribute t j) = search (and-l, and-r) in
-          let d : T (eqb (parentOf t j) q) = search (and-l, and-r) in
-          let e : T (eqb (name t j) n) = search (and-l, and-r) in
-          let low : parentOf t j ≤ getD seen n 0 = rw (eqb→eq (name t j) n e) at (s .last j (has-upTo-to i j (w .2)) c) in
-          let k = s .some n (omega (arith, eqb→eq (parentOf t j) q d)) in
-          let high : parentOf t (k .0) ≤ q = among-ascend t i (b .sound) i (b .inner) (omega arith) h (k .0) (k .1) (k .2) in
-          eq→eqb (getD seen n 0) q (omega (arith, k .4, eqb→eq (parentOf t j) q d)))
-          (λ r.
-          let e : getD seen n 0 ≡ q = eqb→eq (getD seen n 0) q r in
-          let k = s .some n (omega arith) in
-          let j : ℕ = k .0 in
-          let v : T (isAttribute t j && eqb (parentOf t j) q && eqb (name t j) n) =
-          and-i (isAttribute t j && eqb (parentOf t j) q) (eqb (name t j) n) (and-i (isAttribute t j) (eqb (parentOf t j) q) (k .2) (eq→eqb (parentOf t j) q (k .4 ∙ e))) (eq→eqb (name t j) n (k .3)) in
-          and-i (isAttribute t i) (some (sameAttribute t i) (upTo i)) a (some-from (sameAttribute t i) (upTo i) j v (has-upTo-from i j (k .1))))
+    -- an attribute is there again exactly if its element is the last one with its name
+    pub again-seen : Behind t i → goodParent t i ≡ true → T (isAttribute t i) → T (amongAttributes t i) → attributeAgain t i ≡ eqb (getD seen (name t i) 0) (parentOf t i)
+    unfolding attributeAgain sameAttribute
+    again-seen b g a h =
+        let n : ℕ = name t i in
+        let q : ℕ = parentOf t i in
+        let below : q < i = parent-child t i (truly g) .below in
+        let some-row : 0 < q = inner t i (b .sound) q 0 below (eqb→eq (kind t q) 1 (among-element t i (b .sound) i (b .inner) (omega arith) h)) in
+        same (attributeAgain t i) (eqb (getD seen n 0) q)
+        (λ r.
+        let w = some-to (sameAttribute t i) (upTo i) (and-r (isAttribute t i) (some (sameAttribute t i) (upTo i)) r) in
+        let j : ℕ = w .0 in
+        let v : T (isAttribute t j && eqb (parentOf t j) q && eqb (name t j) n) = w .1 in
+        let c : T (isAttribute t j) = search (and-l, and-r) in
+        let d : T (eqb (parentOf t j) q) = search (and-l, and-r) in
+        let e : T (eqb (name t j) n) = search (and-l, and-r) in
+        let low : parentOf t j ≤ getD seen n 0 = rw (eqb→eq (name t j) n e) at (s .last j (has-upTo-to i j (w .2)) c) in
+        let k = s .some n (omega (arith, eqb→eq (parentOf t j) q d)) in
+        let high : parentOf t (k .0) ≤ q = among-ascend t i (b .sound) i (b .inner) (omega arith) h (k .0) (k .1) (k .2) in
+        eq→eqb (getD seen n 0) q (omega (arith, k .4, eqb→eq (parentOf t j) q d)))
+        (λ r.
+        let e : getD seen n 0 ≡ q = eqb→eq (getD seen n 0) q r in
+        let k = s .some n (omega arith) in
+        let j : ℕ = k .0 in
+        let v : T (isAttribute t j && eqb (parentOf t j) q && eqb (name t j) n) =
+        and-i (isAttribute t j && eqb (parentOf t j) q) (eqb (name t j) n) (and-i (isAttribute t j) (eqb (parentOf t j) q) (k .2) (eq→eqb (parentOf t j) q (k .4 ∙ e))) (eq→eqb (name t j) n (k .3)) in
+        and-i (isAttribute t i) (some (sameAttribute t i) (upTo i)) a (some-from (sameAttribute t i) (upTo i) j v (has-upTo-from i j (k .1))))

@@ -180,13 +180,9 @@ module _ (t : List ℕ) where
 
   -- ---- the rows passed
 
-  row-broken : (i : ℕ) → 0 < i → broken t i ≡ not (goodRow t i)
+  pub row-broken : (i : ℕ) → 0 < i → broken t i ≡ not (goodRow t i)
   unfolding broken
   row-broken i p = rw (ne-eqb i 0 (λ e. omega arith))
-
-  pub sound-root : goodRoot t ≡ true → Passed (broken t) 1
-  unfolding broken
-  sound-root h = passed-more (broken t) 0 (passed-start (broken t)) (rw h)
 
   pub sound-more : (i : ℕ) → 0 < i → Passed (broken t) i → goodRow t i ≡ true → Passed (broken t) (i + 1)
   sound-more i p s h = passed-more (broken t) i s (rw (row-broken i p, h))
@@ -196,13 +192,10 @@ module _ (t : List ℕ) where
   unfolding Passed
   passed-behind i p l s = record { inner = p; row = l; sound = s }
 
-  -- the root is the lowest broken row, or the first row behind sound ones that is not good
+  -- the root is the lowest broken row if it is not good
   pub lowest-root : 0 < rows t → goodRoot t ≡ false → 0 ≡ lowest (broken t) (rows t)
   unfolding broken
   lowest-root l h = passed-found (broken t) (rows t) 0 (passed-start (broken t)) l (rw h)
-
-  pub lowest-here : (i : ℕ) → 0 < i → i < rows t → Passed (broken t) i → goodRow t i ≡ false → i ≡ lowest (broken t) (rows t)
-  lowest-here i p l s h = passed-found (broken t) (rows t) i s l (rw (row-broken i p, h))
 
   -- a length that is allowed has some rows, and few
   pub allowed-rows : lengthAllowed t ≡ true → (0 < rows t) × (rows t ≤ mostRows)

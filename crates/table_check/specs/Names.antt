@@ -2,20 +2,21 @@
 -- Assumes nothing: these are definitions.
 use Prim.Native.Nat.{ℕ, _<_, _≤_}
 use mathlib.Core.Path.{_≡_}
-use mathlib.Core.Bool.{_&&_}
+use mathlib.Core.Bool.{Bool, _&&_, _||_}
 use mathlib.Core.List.{List}
-use lib.ListN.{length, getD}
+use lib.ListN.{getD}
 use lib.Dec.{T, leb}
-use Rattle.meaning.specs.Lists.{lowest}
-use Rattle.meaning.specs.Table.{name, parentOf, rows, isAttribute}
+use Rattle.meaning.specs.Table.{name, parentOf, isAttribute, broken}
 
--- the lowest attribute whose name is 4,096 or more, and the row count where there is none
-abbrev pub firstLargeName : List ℕ → ℕ
-firstLargeName t = lowest (λ i. isAttribute t i && leb 4096 (name t i)) (rows t)
+-- is row i an attribute whose name is not below k?
+unfoldable pub unlisted : List ℕ → ℕ → ℕ → Bool
+unlisted t k i = isAttribute t i && leb k (name t i)
 
--- with the rows below i passed, seen has for each name the last element with an attribute of that name, and 0 where there is none; there is
--- room for every name that an attribute of the table has, up to the largest
+-- does a pass with room for the names below k stop at row i: is it broken, or has its name no room?
+unfoldable pub stopped : List ℕ → ℕ → ℕ → Bool
+stopped t k i = broken t i || unlisted t k i
+
+-- with the rows below i passed, seen has for each name the last element with an attribute of that name, and 0 where there is none
 pub record Seen (t : List ℕ) (i : ℕ) (seen : List ℕ) : Type 0 where
-  pub room : (j : ℕ) → j < rows t → T (isAttribute t j) → name t j ≤ 65535 → name t j < length seen
   pub some : (n : ℕ) → 0 < getD seen n 0 → (j : ℕ) × (j < i) × T (isAttribute t j) × (name t j ≡ n) × (parentOf t j ≡ getD seen n 0)
   pub last : (j : ℕ) → j < i → T (isAttribute t j) → parentOf t j ≤ getD seen (name t j) 0

@@ -1,5 +1,5 @@
-// The table checker (document 01, "The node table" and "Numbers given back"; document 02, W-206 and W-209): one look for the first element,
-// one for the first attribute with a large name and one pass over the rows, sums in 64 bits.
+// The table checker (document 01, "The node table" and "Numbers given back"; document 02, W-206 and W-209): one look for the first element
+// and one pass over the rows, begun again at an attribute whose name is none of the few; sums in 64 bits.
 use basics::at_most;
 use basics::below;
 use basics::both;
@@ -16,13 +16,14 @@ use table::parent_at;
 use table::row_count;
 use table::size_at;
 ghost use mathlib.Core.Path.{_≡_};
-ghost use mathlib.Core.Bool.{true};
+ghost use mathlib.Core.Bool.{true, false, not};
 ghost use Prim.Native.Nat.{_+_, _<_, _≤_};
+ghost use lib.ListN.{length};
 ghost use Rattle.meaning.specs.Lists.{lowest};
 ghost use Rattle.meaning.specs.Table.{rows, mostRows, lengthAllowed, goodRoot, isAttribute, goodName, goodParent, textOfRoot, laterElement, textAfterText, amongAttributes, goodRow, broken};
 ghost use Rattle.meaning.specs.Promises.{ChecksTable};
 ghost use Rattle.table_check.specs.Next.{firstElement, goodNumbers, wellPlaced, Behind, Next, Looked};
-ghost use Rattle.table_check.specs.Names.{Seen, firstLargeName};
+ghost use Rattle.table_check.specs.Names.{Seen, unlisted, stopped};
 
 // The largest name.
 const MOST_NAME: usize = 65535;
@@ -146,12 +147,23 @@ fn among_attributes(table: &[u32], i: usize) -> bool
     either(first, next)
 }
 
-// Is row i, an attribute, as the rules have it? seen has for each name the last element with an attribute of that name: no later attribute
+// Is row i an attribute whose name is not below this number?
+fn is_unlisted(table: &[u32], names: usize, i: usize) -> bool
+    requires { ⌜ i < rows (now table) ⌝ }
+    ensures { λ r. ⌜ r ≡ unlisted (now (table .entry)) names i ⌝ }
+{
+    both(is_attribute(table, i), at_most(names, name_at(table, i)))
+}
+
+// Does the pass go on behind row i, an attribute? seen has for each name the last element with an attribute of that name: no later attribute
 // has an earlier element, so the row's own element stands there exactly if it has the name already.
 fn good_attribute(table: &[u32], i: usize, seen: &[u16]) -> bool
     requires { ⌜ Behind (now table) i × (wellPlaced (now table) i ≡ true) × (isAttribute (now table) i ≡ true) × Seen (now table) i (now seen) ⌝ }
-    ensures { λ r. ⌜ r ≡ goodRow (now (table .entry)) i ⌝ }
+    ensures { λ r. ⌜ r ≡ not (stopped (now (table .entry)) (length (now (seen .entry))) i) ⌝ }
 {
+    if is_unlisted(table, seen.len(), i) {
+        return false;
+    }
     if !among_attributes(table, i) {
         return false;
     }
@@ -159,11 +171,11 @@ fn good_attribute(table: &[u32], i: usize, seen: &[u16]) -> bool
     !same(last, parent_at(table, i))
 }
 
-// Is row i, which is not the root, as the rules have it? Few rows are children of the root, and few are texts: the others are done after
-// three tests.
+// Does the pass go on behind row i, which is not the root: is it as the rules have it, with room for its name? Few rows are children of the
+// root, and few are texts: the others are done after three tests.
 fn good_row(table: &[u32], i: usize, first: usize, next: &[u16], seen: &[u16]) -> bool
     requires { ⌜ Looked (now table) i (now next) × Seen (now table) i (now seen) × (first ≡ firstElement (now table)) ⌝ }
-    ensures { λ r. ⌜ r ≡ goodRow (now (table .entry)) i ⌝ }
+    ensures { λ r. ⌜ r ≡ not (stopped (now (table .entry)) (length (now (seen .entry))) i) ⌝ }
 {
     if !well_placed(table, i, next) {
         return false;
@@ -189,7 +201,7 @@ fn pass_row(table: &[u32], i: usize, next: &mut [u16])
 
 // Row i is sound: if it is an attribute, its element is the last one with its name.
 fn pass_name(table: &[u32], i: usize, seen: &mut [u16])
-    requires { ⌜ Behind (now table) i × (rows (now table) ≤ mostRows) × (goodRow (now table) i ≡ true) × Seen (now table) i (now seen) ⌝ }
+    requires { ⌜ Behind (now table) i × (rows (now table) ≤ mostRows) × (stopped (now table) (length (now seen)) i ≡ false) × Seen (now table) i (now seen) ⌝ }
     ensures { λ _. ⌜ Seen (now (table .entry)) (i + 1) (now (seen .exit)) ⌝ }
 {
     if is_attribute(table, i) {
@@ -197,10 +209,11 @@ fn pass_name(table: &[u32], i: usize, seen: &mut [u16])
     }
 }
 
-// The lowest broken row behind a sound root, or the row count where there is none. The root's first child must stand at row 1.
+// The lowest row behind a sound root that is broken or whose name has no room, or the row count where there is none. The root's first
+// child must stand at row 1.
 fn lowest_behind_root(table: &[u32], first: usize, seen: &mut [u16]) -> usize
     requires { ⌜ (0 < rows (now table)) × (rows (now table) ≤ mostRows) × (goodRoot (now table) ≡ true) × (first ≡ firstElement (now table)) × Seen (now table) 1 (now seen) ⌝ }
-    ensures { λ r. ⌜ r ≡ lowest (broken (now (table .entry))) (rows (now (table .entry))) ⌝ }
+    ensures { λ r. ⌜ r ≡ lowest (stopped (now (table .entry)) (length (now (seen .entry)))) (rows (now (table .entry))) ⌝ }
 {
     let n = row_count(table);
     let mut next = [1u16; MOST_ROWS];
@@ -216,23 +229,8 @@ fn lowest_behind_root(table: &[u32], first: usize, seen: &mut [u16]) -> usize
     n
 }
 
-// The lowest attribute whose name is none of the few, or the row count where there is none.
-fn first_large_name(table: &[u32]) -> usize
-    ensures { λ r. ⌜ r ≡ firstLargeName (now (table .entry)) ⌝ }
-{
-    let n = row_count(table);
-    let mut i = 0;
-    while i < n {
-        let large = at_most(FEW_NAMES, name_at(table, i));
-        if both(is_attribute(table, i), large) {
-            return i;
-        }
-        i += 1;
-    }
-    n
-}
-
-// The lowest broken row, or the row count where there is none. The array of all names is cleared only for a table that needs it.
+// The lowest broken row, or the row count where there is none. Clearing room for all names takes longer than the pass over a small table:
+// only a table with a name that is none of the few needs it, and there the pass begins again.
 fn lowest_broken_row(table: &[u32]) -> usize
     requires { ⌜ (0 < rows (now table)) × (rows (now table) ≤ mostRows) ⌝ }
     ensures { λ r. ⌜ r ≡ lowest (broken (now (table .entry))) (rows (now (table .entry))) ⌝ }
@@ -241,12 +239,16 @@ fn lowest_broken_row(table: &[u32]) -> usize
     if !good_root(table, first) {
         return 0;
     }
-    if first_large_name(table) < row_count(table) {
-        let mut seen = [0u16; MOST_NAME + 1];
-        return lowest_behind_root(table, first, &mut seen);
+    let mut few = [0u16; FEW_NAMES];
+    let at = lowest_behind_root(table, first, &mut few);
+    if row_count(table) <= at {
+        return at;
     }
-    let mut seen_few = [0u16; FEW_NAMES];
-    lowest_behind_root(table, first, &mut seen_few)
+    if !is_unlisted(table, FEW_NAMES, at) {
+        return at;
+    }
+    let mut all = [0u16; MOST_NAME + 1];
+    lowest_behind_root(table, first, &mut all)
 }
 
 // 1 for a length that is not allowed, 2 with the lowest broken row, 0 with the row count.

@@ -4,7 +4,9 @@
 use borrow.Author.Needs.{needs}
 use borrow.Author.Tests.{not-true, not-false}
 use mathlib.Core.Path.{sym, _∙_}
+use mathlib.Core.Bool.{and-true}
 use Rattle.table_check.proofs.Next.{ill-placed, good-of-root, good-inner, placed-parent}
+use Rattle.table_check.proofs.Stops.{goes-on, plain-listed}
 use Rattle.table_check.proofs.good_row.Statement.{statement}
 use Rattle.table_check.proofs.good_row.Tie as tie
 
@@ -12,7 +14,9 @@ well-placed-requires : tie.Need-well-placed-requires
 well-placed-requires c κs = search needs
 
 returns : tie.Need-returns
-returns c = sym (ill-placed _ _ (sym (c .before .well-placed .ensures) ∙ not-true _ (c .if1 .taken)))
+returns c =
+    let start = c .before .before .before .before .before in
+    rw (goes-on _ _ _ (start .pre .0 .behind .inner), ill-placed _ _ (sym (c .before .well-placed .ensures) ∙ not-true _ (c .if1 .taken)))
 
 is-attribute-requires : tie.Need-is-attribute-requires
 is-attribute-requires c κs = search needs
@@ -39,10 +43,11 @@ both-requires c κs = search needs
 
 returns-3 : tie.Need-returns-3
 returns-3 c =
+    let start = c .before .before .before .before .before .before .before .before .before .before .before .before in
     let well = sym (c .before .before .before .before .before .before .before .before .well-placed .ensures) ∙ not-false _ (c .before .before .before .before .before .before .before .if1 .left) in
     let plain = sym (c .before .before .before .before .before .before .is-attribute .ensures) ∙ c .before .before .before .before .before .if2 .left in
     let of-root = rw (c .before .before .before .before .parent-at .ensures .0) at (c .before .before .before .if3 .taken) in
-    rw (c .both .ensures, c .before .later-element .ensures, c .before .before .text-of-root .ensures, good-of-root _ _ plain well of-root)
+    rw (goes-on _ _ _ (start .pre .0 .behind .inner), plain-listed _ _ _ plain, c .both .ensures, c .before .later-element .ensures, c .before .before .text-of-root .ensures, good-of-root _ _ plain well of-root) (simp and-true)
 
 text-after-text-requires : tie.Need-text-after-text-requires
 text-after-text-requires c κs =
@@ -51,10 +56,11 @@ text-after-text-requires c κs =
 
 returns-4 : tie.Need-returns-4
 returns-4 c =
+    let start = c .before .before .before .before .before .before .before .before .before .before in
     let well = sym (c .before .before .before .before .before .before .well-placed .ensures) ∙ not-false _ (c .before .before .before .before .before .if1 .left) in
     let plain = sym (c .before .before .before .before .is-attribute .ensures) ∙ c .before .before .before .if2 .left in
     let inner = rw (c .before .before .parent-at .ensures .0) at (c .before .if3 .left) in
-    rw (c .text-after-text .ensures, good-inner _ _ plain well inner)
+    rw (goes-on _ _ _ (start .pre .0 .behind .inner), plain-listed _ _ _ plain, c .text-after-text .ensures, good-inner _ _ plain well inner) (simp and-true)
 
 pub good-row-spec : {M : Type 1} → statement M
 good-row-spec =

@@ -1,5 +1,5 @@
--- `table_check::lowest_behind_root` meets its contract: the loop's invariant is that no row below i is broken, where the next child of each
--- must stand, and the last element with each attribute's name; the measure is what is left of the rows.
+-- `table_check::lowest_behind_root` meets its contract: the loop's invariant is that the pass stops at no row below i, where the next child
+-- of each must stand, and the last element with each attribute's name; the measure is what is left of the rows.
 -- Assumes nothing.
 use borrow.Author.Needs.{needs}
 use borrow.Author.Tests.{not-true, not-false}
@@ -7,17 +7,18 @@ use native.Mathlib.Omega.{arith}
 use mathlib.Core.Path.{_≡_, refl, _∙_, sym}
 use Prim.Native.Nat.{_<_, _≤_, _-_}
 use lib.ListN.{length}
-use Rattle.meaning.specs.Table.{rows, mostRows, broken}
-use Rattle.meaning.proofs.Checks.{Passed, passed-all}
+use Rattle.meaning.specs.Table.{rows, mostRows}
+use Rattle.meaning.proofs.Checks.{Passed, passed-more, passed-found, passed-all}
 use Rattle.table_check.specs.Next.{Next}
-use Rattle.table_check.specs.Names.{Seen}
-use Rattle.table_check.proofs.Next.{next-start, sound-root, sound-more, passed-behind, lowest-here}
+use Rattle.table_check.specs.Names.{Seen, stopped}
+use Rattle.table_check.proofs.Next.{next-start, passed-behind}
+use Rattle.table_check.proofs.Stops.{stops-here, goes-past, passed-root, passed-sound, passed-good}
 use Rattle.table_check.proofs.lowest_behind_root.Statement.{statement}
 use Rattle.table_check.proofs.lowest_behind_root.Tie as tie
 
 abbrev Inv-loop : tie.InvT-loop
 Inv-loop table first seen₀ n next₀ i₀ seen next i =
-    (0 < i) × (i ≤ n) × (n ≡ rows table) × (length next ≡ mostRows) × Passed (broken table) i × Next table i next × (length seen ≡ length seen₀) × Seen table i seen
+    (0 < i) × (i ≤ n) × (n ≡ rows table) × (length next ≡ mostRows) × Passed (stopped table (length seen₀)) i × Next table i next × (length seen ≡ length seen₀) × Seen table i seen
 
 abbrev μ-loop : tie.MeasureT-loop
 μ-loop table first seen₀ n next₀ i₀ seen next i = n - i
@@ -28,7 +29,7 @@ row-count-requires c κs = search needs
 loop-holds : tie.Need-loop-holds Inv-loop μ-loop
 loop-holds c =
     let start = c .before .before .before in
-    (omega arith, omega (arith, start .pre .0), c .row-count .ensures, search needs, sound-root _ (start .pre .2), next-start _ _ (start .pre .0) (start .pre .2) refl, refl, start .pre .4)
+    (omega arith, omega (arith, start .pre .0), c .row-count .ensures, search needs, passed-root _ _ (start .pre .2), next-start _ _ (start .pre .0) (start .pre .2) refl, refl, start .pre .4)
 
 slice-aggregate-good-row : tie.Need-slice-aggregate-good-row Inv-loop μ-loop
 slice-aggregate-good-row c = search needs
@@ -37,7 +38,7 @@ good-row-requires : tie.Need-good-row-requires Inv-loop μ-loop
 good-row-requires c κs =
     let inv = c .before .before .before .loop .inv in
     let start = c .before .before .before .before .before .before .before in
-    (record { behind = passed-behind _ _ (inv .0) (omega arith) (inv .4); few = start .pre .1; long = inv .3; known = inv .5 }, inv .7, start .pre .3)
+    (record { behind = passed-behind _ _ (inv .0) (omega arith) (passed-sound _ _ _ (inv .4)); few = start .pre .1; long = inv .3; known = inv .5 }, inv .7, start .pre .3)
 
 same-length : tie.Need-same-length Inv-loop μ-loop
 same-length c = c .before .before .before .before .before .loop .inv .6
@@ -45,7 +46,8 @@ same-length c = c .before .before .before .before .before .loop .inv .6
 returns : tie.Need-returns Inv-loop μ-loop
 returns c =
     let inv = c .before .before .before .before .before .loop .inv in
-    lowest-here _ _ (inv .0) (omega arith) (inv .4) (sym (c .before .good-row .ensures) ∙ not-true _ (c .if1 .taken))
+    let stops = sym (c .before .good-row .ensures) ∙ not-true _ (c .if1 .taken) in
+    passed-found (stopped _ _) _ _ (inv .4) (omega arith) (stops-here _ _ _ (rw (inv .6) at stops))
 
 slice-aggregate-pass-row : tie.Need-slice-aggregate-pass-row Inv-loop μ-loop
 slice-aggregate-pass-row c = search needs
@@ -54,13 +56,14 @@ pass-row-requires : tie.Need-pass-row-requires Inv-loop μ-loop
 pass-row-requires c κs =
     let inv = c .before .before .before .before .before .before .loop .inv in
     let start = c .before .before .before .before .before .before .before .before .before .before in
-    (record { behind = passed-behind _ _ (inv .0) (omega arith) (inv .4); few = start .pre .1; long = inv .3; known = inv .5 }, sym (c .before .before .good-row .ensures) ∙ not-false _ (c .before .if1 .left))
+    let passed = goes-past _ _ _ (sym (c .before .before .good-row .ensures) ∙ not-false _ (c .before .if1 .left)) in
+    (record { behind = passed-behind _ _ (inv .0) (omega arith) (passed-sound _ _ _ (inv .4)); few = start .pre .1; long = inv .3; known = inv .5 }, passed-good _ _ _ (inv .0) passed)
 
 pass-name-requires : tie.Need-pass-name-requires Inv-loop μ-loop
 pass-name-requires c κs =
     let inv = c .before .before .before .before .before .before .before .before .before .loop .inv in
     let start = c .before .before .before .before .before .before .before .before .before .before .before .before .before in
-    (passed-behind _ _ (inv .0) (omega arith) (inv .4), start .pre .1, sym (c .before .before .before .before .before .good-row .ensures) ∙ not-false _ (c .before .before .before .before .if1 .left), inv .7)
+    (passed-behind _ _ (inv .0) (omega arith) (passed-sound _ _ _ (inv .4)), start .pre .1, goes-past _ _ _ (sym (c .before .before .before .before .before .good-row .ensures) ∙ not-false _ (c .before .before .before .before .if1 .left)), inv .7)
 
 add-i : tie.Need-add-i Inv-loop μ-loop
 add-i c = search needs
@@ -73,8 +76,8 @@ loop-again c =
     let inv = c .before .before .before .before .before .before .before .before .before .before .before .before .loop .inv in
     let named = c .before .before .pass-name in
     let passed = c .before .before .before .before .before .pass-row in
-    let sound = sym (c .before .before .before .before .before .before .before .before .good-row .ensures) ∙ not-false _ (c .before .before .before .before .before .before .before .if1 .left) in
-    (omega arith, omega arith, inv .2, passed .kept .1 .1 .0 ∙ inv .3, sound-more _ _ (inv .0) (inv .4) sound, passed .ensures, named .kept .1 .1 .0 ∙ inv .6, named .ensures)
+    let goes = sym (c .before .before .before .before .before .before .before .before .good-row .ensures) ∙ not-false _ (c .before .before .before .before .before .before .before .if1 .left) in
+    (omega arith, omega arith, inv .2, passed .kept .1 .1 .0 ∙ inv .3, passed-more (stopped _ _) _ (inv .4) (goes-past _ _ _ (rw (inv .6) at goes)), passed .ensures, named .kept .1 .1 .0 ∙ inv .6, named .ensures)
 
 same-length-2 : tie.Need-same-length-2 Inv-loop μ-loop
 same-length-2 c = c .before .loop .inv .6
@@ -83,7 +86,7 @@ returns-2 : tie.Need-returns-2 Inv-loop μ-loop
 returns-2 c =
     let lo = c .before in
     let e : lo .loop .i ≡ lo .before .row-count .result = omega arith in
-    rw (← e) (passed-all (broken _) _ _ (lo .loop .inv .4) (e ∙ lo .loop .inv .2))
+    rw (← e) (passed-all (stopped _ _) _ _ (lo .loop .inv .4) (e ∙ lo .loop .inv .2))
 
 pub lowest-behind-root-spec : {M : Type 1} → statement M
 lowest-behind-root-spec =
