@@ -155,9 +155,9 @@ fn is_unlisted(table: &[u32], names: usize, i: usize) -> bool
     both(is_attribute(table, i), at_most(names, name_at(table, i)))
 }
 
-// Does the pass go on behind row i, an attribute? seen has for each name the last element with an attribute of that name: no later attribute
+// May an attribute, row i, be passed? seen has for each name the last element with an attribute of that name: no later attribute
 // has an earlier element, so the row's own element stands there exactly if it has the name already.
-fn good_attribute(table: &[u32], i: usize, seen: &[u16]) -> bool
+fn may_pass_attribute(table: &[u32], i: usize, seen: &[u16]) -> bool
     requires { ⌜ Behind (now table) i × (wellPlaced (now table) i ≡ true) × (isAttribute (now table) i ≡ true) × Seen (now table) i (now seen) ⌝ }
     ensures { λ r. ⌜ r ≡ not (stopped (now (table .entry)) (length (now (seen .entry))) i) ⌝ }
 {
@@ -171,9 +171,9 @@ fn good_attribute(table: &[u32], i: usize, seen: &[u16]) -> bool
     !same(last, parent_at(table, i))
 }
 
-// Does the pass go on behind row i, which is not the root: is it as the rules have it, with room for its name? Few rows are children of the
+// May row i, which is not the root, be passed: is it as the rules have it, with room for its name? Few rows are children of the
 // root, and few are texts: the others are done after three tests.
-fn good_row(table: &[u32], i: usize, first: usize, next: &[u16], seen: &[u16]) -> bool
+fn may_pass(table: &[u32], i: usize, first: usize, next: &[u16], seen: &[u16]) -> bool
     requires { ⌜ Looked (now table) i (now next) × Seen (now table) i (now seen) × (first ≡ firstElement (now table)) ⌝ }
     ensures { λ r. ⌜ r ≡ not (stopped (now (table .entry)) (length (now (seen .entry))) i) ⌝ }
 {
@@ -181,7 +181,7 @@ fn good_row(table: &[u32], i: usize, first: usize, next: &[u16], seen: &[u16]) -
         return false;
     }
     if is_attribute(table, i) {
-        return good_attribute(table, i, seen);
+        return may_pass_attribute(table, i, seen);
     }
     if parent_at(table, i) == 0 {
         return both(!text_of_root(table, i), !later_element(table, i, first));
@@ -219,7 +219,7 @@ fn lowest_behind_root(table: &[u32], first: usize, seen: &mut [u16]) -> usize
     let mut next = [1u16; MOST_ROWS];
     let mut i = 1;
     while i < n {
-        if !good_row(table, i, first, &next, seen) {
+        if !may_pass(table, i, first, &next, seen) {
             return i;
         }
         pass_row(table, i, &mut next);

@@ -31,11 +31,11 @@ loop-holds c =
     let start = c .before .before .before in
     (omega arith, omega (arith, start .pre .0), c .row-count .ensures, search needs, passed-root _ _ (start .pre .2), next-start _ _ (start .pre .0) (start .pre .2) refl, refl, start .pre .4)
 
-slice-aggregate-good-row : tie.Need-slice-aggregate-good-row Inv-loop μ-loop
-slice-aggregate-good-row c = search needs
+slice-aggregate-may-pass : tie.Need-slice-aggregate-may-pass Inv-loop μ-loop
+slice-aggregate-may-pass c = search needs
 
-good-row-requires : tie.Need-good-row-requires Inv-loop μ-loop
-good-row-requires c κs =
+may-pass-requires : tie.Need-may-pass-requires Inv-loop μ-loop
+may-pass-requires c κs =
     let inv = c .before .before .before .loop .inv in
     let start = c .before .before .before .before .before .before .before in
     (record { behind = passed-behind _ _ (inv .0) (omega arith) (passed-sound _ _ _ (inv .4)); few = start .pre .1; long = inv .3; known = inv .5 }, inv .7, start .pre .3)
@@ -46,7 +46,7 @@ same-length c = c .before .before .before .before .before .loop .inv .6
 returns : tie.Need-returns Inv-loop μ-loop
 returns c =
     let inv = c .before .before .before .before .before .loop .inv in
-    let stops = sym (c .before .good-row .ensures) ∙ not-true _ (c .if1 .taken) in
+    let stops = sym (c .before .may-pass .ensures) ∙ not-true _ (c .if1 .taken) in
     passed-found (stopped _ _) _ _ (inv .4) (omega arith) (stops-here _ _ _ (rw (inv .6) at stops))
 
 slice-aggregate-pass-row : tie.Need-slice-aggregate-pass-row Inv-loop μ-loop
@@ -56,14 +56,14 @@ pass-row-requires : tie.Need-pass-row-requires Inv-loop μ-loop
 pass-row-requires c κs =
     let inv = c .before .before .before .before .before .before .loop .inv in
     let start = c .before .before .before .before .before .before .before .before .before .before in
-    let passed = goes-past _ _ _ (sym (c .before .before .good-row .ensures) ∙ not-false _ (c .before .if1 .left)) in
+    let passed = goes-past _ _ _ (sym (c .before .before .may-pass .ensures) ∙ not-false _ (c .before .if1 .left)) in
     (record { behind = passed-behind _ _ (inv .0) (omega arith) (passed-sound _ _ _ (inv .4)); few = start .pre .1; long = inv .3; known = inv .5 }, passed-good _ _ _ (inv .0) passed)
 
 pass-name-requires : tie.Need-pass-name-requires Inv-loop μ-loop
 pass-name-requires c κs =
     let inv = c .before .before .before .before .before .before .before .before .before .loop .inv in
     let start = c .before .before .before .before .before .before .before .before .before .before .before .before .before in
-    (passed-behind _ _ (inv .0) (omega arith) (passed-sound _ _ _ (inv .4)), start .pre .1, goes-past _ _ _ (sym (c .before .before .before .before .before .good-row .ensures) ∙ not-false _ (c .before .before .before .before .if1 .left)), inv .7)
+    (passed-behind _ _ (inv .0) (omega arith) (passed-sound _ _ _ (inv .4)), start .pre .1, goes-past _ _ _ (sym (c .before .before .before .before .before .may-pass .ensures) ∙ not-false _ (c .before .before .before .before .if1 .left)), inv .7)
 
 add-i : tie.Need-add-i Inv-loop μ-loop
 add-i c = search needs
@@ -76,7 +76,7 @@ loop-again c =
     let inv = c .before .before .before .before .before .before .before .before .before .before .before .before .loop .inv in
     let named = c .before .before .pass-name in
     let passed = c .before .before .before .before .before .pass-row in
-    let goes = sym (c .before .before .before .before .before .before .before .before .good-row .ensures) ∙ not-false _ (c .before .before .before .before .before .before .before .if1 .left) in
+    let goes = sym (c .before .before .before .before .before .before .before .before .may-pass .ensures) ∙ not-false _ (c .before .before .before .before .before .before .before .if1 .left) in
     (omega arith, omega arith, inv .2, passed .kept .1 .1 .0 ∙ inv .3, passed-more (stopped _ _) _ (inv .4) (goes-past _ _ _ (rw (inv .6) at goes)), passed .ensures, named .kept .1 .1 .0 ∙ inv .6, named .ensures)
 
 same-length-2 : tie.Need-same-length-2 Inv-loop μ-loop
@@ -96,8 +96,8 @@ lowest-behind-root-spec =
     μ-loop
     row-count-requires
     loop-holds
-    slice-aggregate-good-row
-    good-row-requires
+    slice-aggregate-may-pass
+    may-pass-requires
     same-length
     returns
     slice-aggregate-pass-row

@@ -1,4 +1,4 @@
--- `table_check::good_attribute` meets its contract: the pass stops at a name without room; and the row is there again exactly if its
+-- `table_check::may_pass_attribute` meets its contract: the pass stops at a name without room; and the row is there again exactly if its
 -- element is the last one with its name.
 -- Assumes nothing.
 use borrow.Author.Needs.{needs}
@@ -10,8 +10,8 @@ use Rattle.meaning.proofs.Bools.{truly}
 use Rattle.table_check.proofs.Next.{good-attribute, placed-parent}
 use Rattle.table_check.proofs.Stops.{goes-on, listed}
 use Rattle.table_check.proofs.Names.{again-seen}
-use Rattle.table_check.proofs.good_attribute.Statement.{statement}
-use Rattle.table_check.proofs.good_attribute.Tie as tie
+use Rattle.table_check.proofs.may_pass_attribute.Statement.{statement}
+use Rattle.table_check.proofs.may_pass_attribute.Tie as tie
 
 is-unlisted-requires : tie.Need-is-unlisted-requires
 is-unlisted-requires c κs = search needs
@@ -58,8 +58,8 @@ returns-3 c =
     rw (goes-on _ _ _ (start .pre .0 .inner), room, c .same .ensures, c .before .parent-at .ensures .0, good-attribute _ _ (start .pre .1) (start .pre .2), stands, again-seen _ _ _ (start .pre .3) (start .pre .0) (placed-parent _ _ (start .pre .1)) (truly (start .pre .2)) (truly stands), ← c .before .before .before .name-at .ensures .0)
     (simp and-true)
 
-pub good-attribute-spec : {M : Type 1} → statement M
-good-attribute-spec =
+pub may-pass-attribute-spec : {M : Type 1} → statement M
+may-pass-attribute-spec =
     tie.close
     (tie.spec
     is-unlisted-requires

@@ -1,4 +1,4 @@
--- `table_check::good_row` meets its contract: a row that is not well placed is not good, and of one that is, the rules for its kind and its
+-- `table_check::may_pass` meets its contract: a row that is not well placed is not good, and of one that is, the rules for its kind and its
 -- place gave their answers.
 -- Assumes nothing.
 use borrow.Author.Needs.{needs}
@@ -7,8 +7,8 @@ use mathlib.Core.Path.{sym, _∙_}
 use mathlib.Core.Bool.{and-true}
 use Rattle.table_check.proofs.Next.{ill-placed, good-of-root, good-inner, placed-parent}
 use Rattle.table_check.proofs.Stops.{goes-on, plain-listed}
-use Rattle.table_check.proofs.good_row.Statement.{statement}
-use Rattle.table_check.proofs.good_row.Tie as tie
+use Rattle.table_check.proofs.may_pass.Statement.{statement}
+use Rattle.table_check.proofs.may_pass.Tie as tie
 
 well-placed-requires : tie.Need-well-placed-requires
 well-placed-requires c κs = search needs
@@ -21,8 +21,8 @@ returns c =
 is-attribute-requires : tie.Need-is-attribute-requires
 is-attribute-requires c κs = search needs
 
-good-attribute-requires : tie.Need-good-attribute-requires
-good-attribute-requires c κs =
+may-pass-attribute-requires : tie.Need-may-pass-attribute-requires
+may-pass-attribute-requires c κs =
     let start = c .before .before .before .before .before .before .before in
     (start .pre .0 .behind, sym (c .before .before .before .well-placed .ensures) ∙ not-false _ (c .before .before .if1 .left), sym (c .before .is-attribute .ensures) ∙ c .if2 .taken, start .pre .1)
 
@@ -62,14 +62,14 @@ returns-4 c =
     let inner = rw (c .before .before .parent-at .ensures .0) at (c .before .if3 .left) in
     rw (goes-on _ _ _ (start .pre .0 .behind .inner), plain-listed _ _ _ plain, c .text-after-text .ensures, good-inner _ _ plain well inner) (simp and-true)
 
-pub good-row-spec : {M : Type 1} → statement M
-good-row-spec =
+pub may-pass-spec : {M : Type 1} → statement M
+may-pass-spec =
     tie.close
     (tie.spec
     well-placed-requires
     returns
     is-attribute-requires
-    good-attribute-requires
+    may-pass-attribute-requires
     returns-2
     parent-at-requires
     text-of-root-requires
