@@ -12,7 +12,7 @@ use lib.Dec.{T, leb, ltb, eqb, ltb→lt, leb→le, eqb→eq}
 use lib.Ieee.{Float}
 use native.Mathlib.Omega.{arith}
 use Rattle.meaning.specs.Lists.{keep, some, has, upTo, placeFrom}
-use Rattle.meaning.specs.Table.{kind, parentOf, rows, end, isAttribute, goodRoot, accepted}
+use Rattle.meaning.specs.Table.{kind, parentOf, rows, end, isAttribute, accepted}
 use Rattle.meaning.specs.Axis.{Axis, axisOf, testOf, under, inside, after, on, isReverse, ordered, axisNodes, place, principal, candidates, passes}
 use Rattle.meaning.specs.Axis as A
 use Rattle.meaning.specs.Tree.{Tree, none, node}
@@ -20,7 +20,7 @@ use Rattle.meaning.specs.Meaning.{union, walk, filtered}
 use Rattle.meaning.specs.Turning.{someStep, isOfAttributes, ofAttributes}
 use Rattle.meaning.proofs.Bools.{and-l, and-r, or-e, or-none-l, or-none-r, is-true, is-false, not-e, lt-or-ge, eq-or-ne}
 use Rattle.meaning.proofs.Lists.{some-to, has-keep-to, has-upTo-to, length-upTo, upTo-at, keep-slice, keep-each, keepAt-among, order-monotone, place-kept}
-use Rattle.meaning.proofs.Tables.{Plain, Child, child, root-holds, whole, some-row}
+use Rattle.meaning.proofs.Tables.{Plain, Child, child, root-kind, root-holds, whole, some-row}
 use Rattle.meaning.proofs.DataModel.{attribute-parts, attribute-of, inner, holder, element-plain, among-row, among}
 use Rattle.meaning.proofs.Decoding.{principal-kind}
 use Rattle.meaning.proofs.Places.{placed, placed-on, candidate-is}
@@ -38,11 +38,7 @@ filtered-among t literals (node op a b c d) l y h = filtered-among t literals a 
 module _ (t : List ℕ) (acc : accepted t ≡ true) where
   -- the root is no attribute
   root-plain : Plain t 0
-  unfolding goodRoot
-  root-plain =
-      let g : T (goodRoot t) = root-holds t (rows t) (whole t acc) (some-row t acc) in
-      let f : T (eqb (kind t 0) 0) = search (and-l, and-r) in
-      (some-row t acc, rw (eqb→eq (kind t 0) 0 f))
+  root-plain = (some-row t acc, rw (root-kind t (root-holds t (rows t) (whole t acc) (some-row t acc))))
 
   -- so a path starts from no attribute if it is not handed one
   pub start-plain : (absolute : Bool) (x : ℕ) → Plain t x → (z : ℕ) → T (has (keep (eqb (cond absolute 0 x)) (upTo (rows t))) z) → Plain t z

@@ -18,7 +18,7 @@ use Rattle.meaning.specs.Axis as A
 use Rattle.meaning.proofs.Bools.{and-l, and-r, and-i, or-e, is-true, is-false, truly, untrue, not-e, not-false, eq→eqb, lt-or-ge, eq-or-ne}
 use Rattle.meaning.proofs.Lists.{IsLowest, lowest-found, some-from, has-upTo-from, none-below, upTo-at, length-upTo, keep-keep, keep-none, keep-all, place-largest}
 use Rattle.meaning.proofs.Ranges.{range, keep-range, range-length}
-use Rattle.meaning.proofs.Tables.{Sound, root-holds, row-holds, Child, good-child, whole, some-row}
+use Rattle.meaning.proofs.Tables.{Sound, root-kind, root-holds, row-holds, Child, good-child, whole, some-row}
 
 -- an element is no attribute
 pub element-plain : (t : List ℕ) (i : ℕ) → T (isElement t i) → isAttribute t i ≡ false
@@ -50,14 +50,10 @@ among-row t i h =
 module _ (t : List ℕ) (n : ℕ) (sound : Sound t n) where
   -- only the root has its kind
   pub inner : (i k : ℕ) → i < n → kind t i ≡ suc k → 0 < i
-  unfolding goodRoot
-  inner i k l e =
-      let g : T (goodRoot t) = root-holds t n sound (omega arith) in
-      let f : T (eqb (kind t 0) 0) = search (and-l, and-r) in
-      elim (lt-or-ge 0 i) [
-        | inl p ↦ p
-        | inr z ↦ let s : i ≡ 0 = omega arith in absurd (omega (arith, eqb→eq (kind t 0) 0 f, rw s at e))
-      ]
+  inner i k l e = elim (lt-or-ge 0 i) [
+    | inl p ↦ p
+    | inr z ↦ let s : i ≡ 0 = omega arith in absurd (omega (arith, root-kind t (root-holds t n sound (omega arith)), rw s at e))
+  ]
 
   -- a row inside which others stand is the root or an element
   pub holder : (i : ℕ) → 0 < i → i < n → i < end t i → T (isElement t i)

@@ -6,7 +6,7 @@ use mathlib.Core.Logic.{inl, inr, ⊎-elim}
 use mathlib.Core.Bool.{Bool, true, false, _&&_, _||_, cond, or-assoc, or-false, or-comm}
 use mathlib.Core.List.{List, [], _∷_, _++_, append-nil}
 use lib.Dec.{T, ltb, eqb, eqb→eq, eqb-refl}
-use lib.ListN.{length, getD, take, drop, length-append, length-take, length-drop, take-append-drop, List·getD-append}
+use lib.ListN.{length, getD, take, drop, replicate, length-append, length-take, length-drop, take-append-drop, List·getD-append}
 use lib.Seq.{getD-at, getD-take, getD-drop, slice}
 use native.Mathlib.Omega.{arith}
 use native.Mathlib.Nat.{eq-or-lt-of-le}
@@ -16,6 +16,12 @@ use Rattle.meaning.specs.Lists.{keep, some, has, upTo, downFrom, placeFr
 use Rattle.meaning.specs.Axis.{ordered}
 use Rattle.meaning.specs.Meaning.{keepAt}
 use Rattle.meaning.proofs.Bools.{and-l, and-r, and-i, or-e, or-i-l, or-i-r, eq→eqb, truly, is-false, untrue, same, lt-or-ge, eq-or-ne}
+
+-- what is read of a list of one value, past its end too, is that value
+pub one-value : {A : Type 0} (n i : ℕ) (d : A) → getD (replicate n d) i d ≡ d
+one-value zero i d = refl
+one-value (suc n) zero d = refl
+one-value (suc n) (suc i) d = one-value n i d
 
 -- ---- members
 

@@ -17,7 +17,7 @@ use Rattle.meaning.specs.Lists.{keep, some, has, upTo}
 use Rattle.meaning.specs.Table.{rows}
 use Rattle.meaning.specs.Meaning.{union}
 use Rattle.meaning.proofs.Bools.{lt-or-ge, eq-or-ne}
-use Rattle.meaning.proofs.Lists.{some-append, keep-append, keep-more, keep-skip, keep-upTo}
+use Rattle.meaning.proofs.Lists.{one-value, some-append, keep-append, keep-more, keep-skip, keep-upTo}
 
 -- the rows that are marked, ascending
 unfoldable pub listed : List ℕ → List Bool → List ℕ
@@ -39,9 +39,7 @@ listed-none t marks h = listed-by t marks (λ y. false) (λ y l. h y) ∙ keep-n
 
 -- nothing is marked where all marks begin as false
 pub no-marks : (n y : ℕ) → getD (replicate n false) y false ≡ false
-no-marks zero y = refl
-no-marks (suc n) zero = refl
-no-marks (suc n) (suc y) = no-marks n y
+no-marks n y = one-value n y false
 
 -- one mark where there was none lists that row, if it is one
 module _ (t : List ℕ) (marks : List Bool) (x : ℕ) (clear : (y : ℕ) → getD marks y false ≡ false) where

@@ -10,7 +10,7 @@ use native.Mathlib.Omega.{arith}
 use native.Mathlib.Nat.{eq-or-lt-of-le}
 use borrow.Author.Tests.{ne-eqb}
 use Rattle.meaning.specs.Lists.{upTo, some}
-use Rattle.meaning.specs.Table.{mostRows, parentOf, rows, end, isAttribute, lengthAllowed, goodRoot, nearest, goodParent, goodRow, broken, accepted}
+use Rattle.meaning.specs.Table.{mostRows, kind, parentOf, rows, end, isAttribute, lengthAllowed, goodRoot, nearest, goodParent, goodRow, broken, accepted}
 use Rattle.meaning.proofs.Bools.{and-l, and-r, and-i, truly, is-false, not-false, not-e, lt-or-ge}
 use Rattle.meaning.proofs.Lists.{below-none, some-from, has-upTo-from}
 
@@ -50,6 +50,13 @@ parent-child t i p =
 
 pub good-child : (t : List ℕ) (i : ℕ) → T (goodRow t i) → Child t i
 good-child t i g = parent-child t i (good-parent t i g)
+
+-- the root has kind 0
+pub root-kind : (t : List ℕ) → T (goodRoot t) → kind t 0 ≡ 0
+unfolding goodRoot
+root-kind t g =
+    let f : T (eqb (kind t 0) 0) = search (and-l, and-r) in
+    eqb→eq (kind t 0) 0 f
 
 -- a row that is no attribute
 abbrev pub Plain : List ℕ → ℕ → Type 0

@@ -2,8 +2,8 @@
 -- its own element stands at it. An element that is seen is some earlier attribute's; no earlier attribute has a later element than the
 -- row's own, so an earlier one of the name on that element is the last of the name.
 -- Assumes nothing.
-use Prim.Native.Nat.{ℕ, zero, suc, _+_, _<_, _≤_}
-use mathlib.Core.Path.{_≡_, refl, sym, _∙_}
+use Prim.Native.Nat.{ℕ, _+_, _<_, _≤_}
+use mathlib.Core.Path.{_≡_, sym, _∙_}
 use mathlib.Core.Logic.{inl, inr}
 use mathlib.Core.Bool.{true, false, _&&_}
 use mathlib.Core.List.{List}
@@ -14,24 +14,18 @@ use native.Mathlib.Omega.{arith}
 use Rattle.meaning.specs.Lists.{upTo, some}
 use Rattle.meaning.specs.Table.{kind, name, parentOf, isAttribute, goodRoot, goodParent, amongAttributes, sameAttribute, attributeAgain}
 use Rattle.meaning.proofs.Bools.{and-l, and-r, and-i, truly, untrue, same, eq→eqb, eq-or-ne}
-use Rattle.meaning.proofs.Lists.{some-to, some-from, has-upTo-to, has-upTo-from}
+use Rattle.meaning.proofs.Lists.{one-value, some-to, some-from, has-upTo-to, has-upTo-from}
 use Rattle.meaning.proofs.Tables.{Sound, parent-child}
 use Rattle.meaning.proofs.DataModel.{inner, among, among-element, among-ascend}
 use Rattle.table_check.specs.Next.{Behind}
 use Rattle.table_check.specs.Names.{Seen}
 use Rattle.table_check.proofs.Stops.{root-plain}
 
--- each entry of a list of zeros, and what is read past its end, is 0
-zeros : (m n : ℕ) → getD {A = ℕ} (replicate m 0) n 0 ≡ 0
-zeros zero n = refl
-zeros (suc m) zero = refl
-zeros (suc m) (suc n) = zeros m n
-
 module _ (t : List ℕ) where
   -- at row 1 none is seen: the root is no attribute
   pub seen-start : (k : ℕ) → goodRoot t ≡ true → Seen t 1 (replicate k 0)
   seen-start k root = record {
-    some = λ n p. absurd (omega (arith, zeros k n));
+    some = λ n p. absurd (omega (arith, one-value {A = ℕ} k n 0));
     last = λ j l a. let z : j ≡ 0 = omega arith in absurd (untrue (root-plain t (truly root)) (rw z at a));
   }
 

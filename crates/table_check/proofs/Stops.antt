@@ -6,12 +6,13 @@ use mathlib.Core.Path.{_≡_, refl, sym, _∙_}
 use mathlib.Core.Logic.{inl, inr}
 use mathlib.Core.Bool.{Bool, true, false, _&&_, _||_, not}
 use mathlib.Core.List.{List}
-use lib.Dec.{T, leb, eqb, leb→le, le→leb, eqb→eq}
+use lib.Dec.{T, leb, leb→le, le→leb, eqb→eq}
 use native.Mathlib.Omega.{arith}
 use Rattle.meaning.specs.Lists.{lowest}
 use Rattle.meaning.specs.Table.{kind, name, rows, isAttribute, goodRoot, goodName, goodRow, broken}
 use Rattle.meaning.proofs.Bools.{and-l, and-r, and-i, or-e, or-none-l, or-none-r, truly, untrue, is-true, is-false, not-e, not-false, lt-or-ge}
 use Rattle.meaning.proofs.Lists.{lowest-is, lowest-le, lowest-below, lowest-at}
+use Rattle.meaning.proofs.Tables.{root-kind}
 use Rattle.meaning.proofs.Checks.{Passed, passed-start, passed-more}
 use Rattle.table_check.specs.Next.{wellPlaced}
 use Rattle.table_check.specs.Names.{unlisted, stopped}
@@ -20,10 +21,7 @@ use Rattle.table_check.proofs.Next.{row-broken, good-placed}
 module _ (t : List ℕ) where
   -- a sound root is no attribute
   pub root-plain : T (goodRoot t) → isAttribute t 0 ≡ false
-  unfolding goodRoot
-  root-plain g =
-      let f : T (eqb (kind t 0) 0) = search (and-l, and-r) in
-      rw (eqb→eq (kind t 0) 0 f)
+  root-plain g = rw (root-kind t g)
 
   -- an attribute's name is at most 65,535
   name-fits : (i : ℕ) → T (wellPlaced t i) → T (isAttribute t i) → name t i < 65536
