@@ -1,6 +1,6 @@
 -- Demand 3, of rows: a path that is turned gives rows that are accepted, one more than it has, and for nodes that are no attributes of an
--- accepted table they select x from y exactly where the path selects y from x. The turned tree is tidy and made by the rules as the path's own is, so its written rows are accepted and
--- read back as it; what it selects is the law of trees.
+-- accepted table they select x from y exactly where the path selects y from x. The turned tree is tidy and made by the rules as the path's
+-- own is, so its written rows are accepted and read back as it; what it selects is the law of trees.
 -- Assumes nothing.
 use Prim.Native.Nat.{ℕ, zero, suc, _+_, _-_, _*_, _≤_}
 use mathlib.Core.Path.{_≡_, refl, sym, subst, ap, _∙_}

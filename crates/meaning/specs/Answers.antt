@@ -1,6 +1,6 @@
--- Numbers given back (document 01; 13 of document 02, W-209), and a node's place on an axis (document 02, W-203): the answer of each public function and what its
--- output slice holds, from its inputs.
--- Checks run in the order of the numbers; the first that applies is given, and no other.
+-- Numbers given back (document 01; 13 of document 02, W-209), and a node's place on an axis (document 02, W-203): the answer of each public
+-- function and what its output slice holds, from its inputs.
+-- Checks run in the order of the numbers, 13 between 9 and 10; the first that applies is given, and no other.
 -- Assumes nothing: these are definitions.
 use Prim.Native.Nat.{ℕ, _+_, _*_}
 use mathlib.Core.Bool.{Bool, false, _&&_, _||_, not, cond}
@@ -96,7 +96,8 @@ unfoldable pub absolutePath : Tree → Bool
 absolutePath none = false
 absolutePath (node op a b c d) = isAbsolute op
 
--- turning. 9: a step counts; 13: a step is on the attribute axis; 10: the path is absolute; 11: rows + 1 above 256, or the output shorter than 5 times that
+-- turning. 9: a step counts; 13: a step is on the attribute axis; 10: the path is absolute; 11: rows + 1 above 256, or the output shorter
+-- than 5 times that
 unfoldable pub turning : List ℕ → List Float → ℕ → Answer
 turning p literals room =
     pathChecks p literals

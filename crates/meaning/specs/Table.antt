@@ -1,4 +1,5 @@
--- The node table (document 01, "The node table"; document 02, W-206 and W-209): four numbers a row; row i is node i, and row order is document order.
+-- The node table (document 01, "The node table"; document 02, W-206 and W-209): four numbers a row; row i is node i, and row order is
+-- document order.
 -- Assumes nothing: these are definitions.
 use Prim.Native.Nat.{ℕ, _+_, _-_, _*_, _/_, _%_}
 use mathlib.Core.Bool.{Bool, _&&_, _||_, not, cond}

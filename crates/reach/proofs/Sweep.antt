@@ -15,11 +15,11 @@ use native.Mathlib.Numerals.{add-one}
 use borrow.Author.Tests.{lt-ltb, le-ltb, ne-eqb}
 use Rattle.meaning.specs.Lists.{upTo, some}
 use Rattle.meaning.specs.Table.{rows, parentOf, end, isAttribute}
-use Rattle.meaning.specs.Axis.{under, inside, after, on}
+use Rattle.meaning.specs.Axis.{under, inside, on}
 use Rattle.meaning.specs.Axis as A
 use Rattle.meaning.proofs.Bools.{lt-or-ge, eq-or-ne, eqb-sym}
 use Rattle.meaning.proofs.Lists.{some-last, some-same}
-use Rattle.meaning.proofs.Windows.{some-below, some-and, some-at, some-at-or, upFrom, window-below, window-above, leb-ltb, after-is}
+use Rattle.meaning.proofs.Windows.{some-below, some-and, some-at, some-at-or, upFrom, window-below, window-above, leb-ltb}
 use Rattle.meaning.proofs.Marks.{Wrote, WroteDown, wrote-all, down-all, set-if}
 use Rattle.reach.specs.Reach.{hit, Hits, Rooted, admitted, beyond}
 
@@ -203,19 +203,13 @@ module _ (t : List ℕ) (from : List Bool) (y : ℕ) (low : y < rows t) where
   around-hit own attributes v h b =
       rw (around-met t (giving from (admitted t true attributes)) y low v h b, hit-give t (λ x z. inside t z x) from y (admitted t true attributes)) (hit-own t (λ x z. admitted t true attributes x && inside t z x) from y own low)
 
--- after a row that gives, and before one: by what was gathered of all rows
+-- a row that r takes of those that give, after them or before them, where a bound gathered of all rows answers r
 module _ (t : List ℕ) (from : List Bool) (y : ℕ) (given taken v : Bool) where
-  pub after-hit : v ≡ some (λ x. getD from x false && (admitted t true given x && ltb (end t x) y)) (upTo (rows t))
-      → (v && admitted t true taken y) ≡ hit t (λ x z. (admitted t true given x && after t x z) && admitted t true taken z) from y
-  after-hit e =
-      let met-after : v ≡ hit t (λ x z. admitted t true given x && after t x z) from y = unfold hit in (e ∙ some-same _ _ (upTo (rows t)) (λ x. rw (after-is t x y))) in
-      rw met-after (hit-take t (λ x z. admitted t true given x && after t x z) from y (admitted t true taken))
-
-  pub before-hit : v ≡ some (λ x. getD from x false && (admitted t true given x && ltb (end t y) x)) (upTo (rows t))
-      → (v && admitted t true taken y) ≡ hit t (λ x z. (admitted t true given x && after t z x) && admitted t true taken z) from y
-  before-hit e =
-      let met-before : v ≡ hit t (λ x z. admitted t true given x && after t z x) from y = unfold hit in (e ∙ some-same _ _ (upTo (rows t)) (λ x. rw (after-is t y x))) in
-      rw met-before (hit-take t (λ x z. admitted t true given x && after t z x) from y (admitted t true taken))
+  pub bound-hit : (r : ℕ → ℕ → Bool) (bound : ℕ → Bool) → ((x : ℕ) → bound x ≡ r x y) → v ≡ some (λ x. getD from x false && (admitted t true given x && bound x)) (upTo (rows t))
+      → (v && admitted t true taken y) ≡ hit t (λ x z. (admitted t true given x && r x z) && admitted t true taken z) from y
+  bound-hit r bound answers e =
+      let met-r : v ≡ hit t (λ x z. admitted t true given x && r x z) from y = unfold hit in (e ∙ some-same _ _ (upTo (rows t)) (λ x. rw (answers x))) in
+      rw met-r (hit-take t (λ x z. admitted t true given x && r x z) from y (admitted t true taken))
 
 -- siblings: no attribute gives, and none is taken
 module _ (t : List ℕ) (from : List Bool) (y : ℕ) (low : y < rows t) where

@@ -1,4 +1,5 @@
--- `marks::sift` meets its contract: each mark passed stays where its row passes the test, which all do for test 0. The measure is what is left of the rows.
+-- `marks::sift` meets its contract: each mark passed stays where its row passes the test, which all do for test 0. The measure is what is
+-- left of the rows.
 -- Assumes nothing.
 use Prim.Native.Nat.{_-_, _≤_}
 use mathlib.Core.Path.{_≡_, refl, sym, _∙_}

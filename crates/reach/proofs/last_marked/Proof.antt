@@ -1,4 +1,5 @@
--- `reach::last_marked` meets its contract: a number is below what was gathered exactly if it is below a row passed that gives. The measure is what is left of the rows.
+-- `reach::last_marked` meets its contract: a number is below what was gathered exactly if it is below a row passed that gives. The measure
+-- is what is left of the rows.
 -- Assumes nothing.
 use Prim.Native.Nat.{_+_, _-_, _≤_}
 use mathlib.Core.Path.{_≡_, refl, _∙_}

@@ -1,4 +1,5 @@
--- `reach::least_end` meets its contract: a number is above what was gathered exactly if it is above the end of a row passed that gives. The measure is what is left of the rows.
+-- `reach::least_end` meets its contract: a number is above what was gathered exactly if it is above the end of a row passed that gives. The
+-- measure is what is left of the rows.
 -- Assumes nothing.
 use Prim.Native.Nat.{_+_, _-_, _≤_}
 use mathlib.Core.Path.{_≡_, refl, _∙_}

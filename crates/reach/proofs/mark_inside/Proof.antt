@@ -1,4 +1,5 @@
--- `reach::mark_inside` meets its contract: a number is below far exactly if it is not past the end of a marked row passed; the rows passed are marked exactly if they are reached, and the others as they were. The measure is what is left of the rows.
+-- `reach::mark_inside` meets its contract: a number is below far exactly if it is not past the end of a marked row passed; the rows passed
+-- are marked exactly if they are reached, and the others as they were. The measure is what is left of the rows.
 -- Assumes nothing.
 use Prim.Native.Nat.{_+_, _-_, _<_, _≤_}
 use mathlib.Core.Path.{_≡_, refl, _∙_}

@@ -1,4 +1,5 @@
--- `reach::mark_over` meets its contract: of the rows passed those are marked that are the parent of a row passed that gives, and the others are as they were; a parent is among the rows passed when its child hands it its mark. The measure is what is left of the rows.
+-- `reach::mark_over` meets its contract: of the rows passed those are marked that are the parent of a row passed that gives, and the others
+-- are as they were; a parent is among the rows passed when its child hands it its mark. The measure is what is left of the rows.
 -- Assumes nothing.
 use Prim.Native.Nat.{_-_, _<_, _≤_}
 use mathlib.Core.Path.{_≡_, refl, _∙_}

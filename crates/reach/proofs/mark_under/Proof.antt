@@ -1,4 +1,5 @@
--- `reach::mark_under` meets its contract: the rows passed are marked exactly if their parent was, whose mark is not written yet, since no parent stands after its child, and they are asked for. The measure is what is left of the rows.
+-- `reach::mark_under` meets its contract: the rows passed are marked exactly if their parent was, whose mark is not written yet, since no
+-- parent stands after its child, and they are asked for. The measure is what is left of the rows.
 -- Assumes nothing.
 use Prim.Native.Nat.{_+_, _-_, _<_, _≤_}
 use mathlib.Core.Path.{_≡_, refl, _∙_}

@@ -1,4 +1,4 @@
--- `turn::turn` meets its contract: each check by what was read, in the order of the numbers; a refusal has stored nothing.
+-- `turn::turn` meets its contract: each check by what was read, in the order of the definition; a refusal has stored nothing.
 -- Assumes nothing.
 use mathlib.Core.Path.{refl}
 use native.Mathlib.Omega.{arith}
