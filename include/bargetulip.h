@@ -29,7 +29,8 @@
  *   kind=, name=, parent=, size=  a line each, for each row
  * A value is a decimal up to 4,294,967,295 without leading zeros, sign or space.
  * Reading what was written gives the same table, and writing what was read the
- * same file, byte for byte.
+ * same file, byte for byte. Its edition is the file format's, not a rule
+ * sheet's.
  *
  * A path is 5 numbers a row (op, a, b, c, d), 1 to 256 rows. A link is a row
  * number plus one and names a lower row; 0 is no link. Every row but the last
@@ -54,7 +55,7 @@
  * 9 following-sibling, 10 preceding-sibling, 11 attribute.
  * Tests: 0 node(), 1 *, 2 text(), 3 comment(), 4 processing-instruction(),
  * 16 + k the name k. On axis 11 * and names match attributes, on every other
- * axis elements.
+ * axis elements; in edition 1 of the rule sheets * matches any node.
  * An attribute lies on the attribute axis of its element and on its own self,
  * descendant-or-self and ancestor-or-self axes, and on no other axis of any
  * node. From an attribute, parent and ancestor lead to its element and up;
@@ -92,14 +93,15 @@
 extern "C" {
 #endif
 
-/* The numbers given back. Checks run in the order of this list (13 came later
- * and stands between 9 and 10: all steps are looked at for 9 before any is for
- * 13), but for the reader and the writer of table files, which say their own,
+/* The numbers given back. Checks run in the order of this list (14 and 13 came
+ * later: 14 stands before all others, 13 between 9 and 10, for all steps are
+ * looked at for 9 before any is for 13), but for the reader and the writer of table files, which say their own,
  * and the first that applies is returned; *place is always written and means
  * what the comment says. */
 enum {
     BT_DONE = 0,          /* done: nodes or rows written (checkers: row count;
                              files: numbers or bytes written) */
+    BT_EDITION = 14,      /* the edition is neither 1 nor 2: the edition */
     BT_TABLE_LENGTH = 1,  /* table length not 4 to 16,384 or not a multiple of 4: 0 */
     BT_TABLE_ROW = 2,     /* broken table row: the lowest one */
     BT_PATH_LENGTH = 3,   /* path length not 5 to 1,280 or not a multiple of 5: 0 */
@@ -119,6 +121,14 @@ enum {
     BT_FILE_LINE = 20,    /* reading: a bad line: the first one's number from 1 */
     BT_FILE_ROOM = 21     /* files: out too short: the numbers (reading) or
                              bytes (writing) that are needed in all */
+};
+
+/* The editions of rule sheets. They differ in `*` (test 1) alone: in edition 2
+ * it matches elements, and attributes on the attribute axis, as the
+ * Recommendation has it; in edition 1 it matches any node, as node() does. */
+enum {
+    BT_EDITION_1 = 1,
+    BT_EDITION_2 = 2
 };
 
 /* The largest table, path, literal list and nesting that are accepted. */
@@ -147,22 +157,23 @@ uint32_t bt_check_path(const uint32_t *path, size_t path_len,
                        const double *literals, size_t literals_len,
                        uint32_t *place);
 
-/* Selects the nodes of a path, from the node start (which must be a row even
- * if the path is absolute).
- * Returns 0 to 8. On 0 the selected row numbers stand in ascending order in
+/* Selects the nodes of a path, in an edition, from the node start (which must be
+ * a row even if the path is absolute).
+ * Returns 14 or 0 to 8, 14 checked first. On 0 the selected row numbers stand in ascending order in
  * out[0 .. *place - 1] and the rest of out is unchanged. On every other number
  * out is unchanged; on 8, *place says how much room is needed. A room of
  * as many numbers as the table has rows is always enough; selecting nothing
  * into no room is 0. */
-uint32_t bt_evaluate(const uint32_t *table, size_t table_len,
+uint32_t bt_evaluate(uint32_t edition,
+                     const uint32_t *table, size_t table_len,
                      const uint32_t *path, size_t path_len,
                      const double *literals, size_t literals_len,
                      uint32_t start,
                      uint32_t *out, size_t out_len, uint32_t *place);
 
 /* Turns a relative path round: x is selected from y by the turned path exactly
- * if y is selected from x by the path, on every accepted table, for nodes x and
- * y that are no attributes. Paths in predicates may have steps on the attribute
+ * if y is selected from x by the path, in each edition, on every accepted table,
+ * for nodes x and y that are no attributes. Paths in predicates may have steps on the attribute
  * axis; a step of the path itself may not (13).
  * Returns 0, 3 to 6, 9, 13, 10 or 11, checked in this order. On 0 the *place
  * rows of the turned path stand in out[0 .. 5 * *place - 1], to be used with

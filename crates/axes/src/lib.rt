@@ -1,5 +1,5 @@
 // Is a node on an axis of another, in which order does the axis run, and does a node pass a test: each equal to its definition (document
-// 01, "Meaning").
+// 01, "Meaning"). Tests are those of edition 2; a test of another edition is read as one of them first (document 02, W-210).
 use basics::at_most;
 use basics::below;
 use basics::both;
@@ -16,6 +16,7 @@ ghost use Rattle.meaning.specs.Table.{rows, parentOf, end, isAttribute};
 ghost use Rattle.meaning.specs.Axis.{under, inside, after, on, axisOf, passes, testOf, isReverse, ordered};
 ghost use Rattle.meaning.specs.Axis.Axis.{descendant, following-sibling};
 ghost use Rattle.meaning.specs.Axis.Test.{named};
+ghost use Rattle.meaning.proofs.Editions.{inSecond};
 
 // The parent of any number, and the end of its subtree: of no row both read 0 for what is stored.
 fn any_parent(table: &[u32], i: usize) -> usize
@@ -128,10 +129,18 @@ pub fn principal(axis: usize) -> usize
     if axis == LAST_AXIS { 5 } else { 1 }
 }
 
+// The test that says in edition 2 what a test says in an edition: node() for the `*` of edition 1.
+pub fn in_second(edition: usize, test: usize) -> usize
+    ensures { λ r. ⌜ r ≡ inSecond edition test ⌝ }
+{
+    let any_node = both(same(edition, 1), same(test, 1));
+    if any_node { 0 } else { test }
+}
+
 // Does node y pass the test with this number, where `*` and names match this kind?
 pub fn passes_test(table: &[u32], kind: usize, test: usize, y: usize) -> bool
     requires { ⌜ y < rows (now table) ⌝ }
-    ensures { λ r. ⌜ r ≡ passes (now (table .entry)) kind (testOf test) y ⌝ }
+    ensures { λ r. ⌜ r ≡ passes 2 (now (table .entry)) kind (testOf test) y ⌝ }
 {
     match test {
         0 => true,
@@ -146,7 +155,7 @@ pub fn passes_test(table: &[u32], kind: usize, test: usize, y: usize) -> bool
 // Is node y of this kind, with the name that the test asks for?
 fn is_named(table: &[u32], kind: usize, test: usize, y: usize) -> bool
     requires { ⌜ y < rows (now table) ⌝ }
-    ensures { λ r. ⌜ r ≡ passes (now (table .entry)) kind (named (test - 16)) y ⌝ }
+    ensures { λ r. ⌜ r ≡ passes 2 (now (table .entry)) kind (named (test - 16)) y ⌝ }
 {
     both(
         same(kind_at(table, y), kind),

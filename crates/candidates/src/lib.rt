@@ -1,6 +1,7 @@
 // The candidates of a step from one node: the rows of an axis that pass a test, in the order of the axis. An axis whose nodes can be told
 // from the table without a scan has a small function of its own, which promises that axis's candidates; the others look at every row.
 use axes::holds;
+use axes::in_second;
 use axes::is_reverse;
 use axes::nth;
 use axes::passes_test;
@@ -21,22 +22,30 @@ ghost use Rattle.meaning.specs.Table.{rows, mostRows, end};
 ghost use Rattle.meaning.specs.Axis.{axisOf, testOf, passes, candidates};
 ghost use Rattle.meaning.specs.Axis.Axis.{descendant, descendant-or-self};
 
-// Writes the candidates to the front of the list.
-pub fn list_candidates(table: &[u32], axis: usize, test: usize, x: usize, list: &mut [u32]) -> usize
+// Writes the candidates of an edition to the front of the list. What the functions below list are those of edition 2.
+pub fn list_candidates(
+    edition: usize,
+    table: &[u32],
+    axis: usize,
+    test: usize,
+    x: usize,
+    list: &mut [u32],
+) -> usize
     requires { ⌜ (rows (now table) ≤ mostRows) × (x < 4294967296) × (rows (now table) ≤ length (now list)) ⌝ }
-    ensures { λ r. ⌜ (take r (now (list .exit)) ≡ candidates (now (table .entry)) (axisOf axis) (testOf test) x) × (r ≤ rows (now (table .entry))) ⌝ }
+    ensures { λ r. ⌜ (take r (now (list .exit)) ≡ candidates edition (now (table .entry)) (axisOf axis) (testOf test) x) × (r ≤ rows (now (table .entry))) ⌝ }
 {
+    let read = in_second(edition, test);
     match axis {
-        3 => list_descendants(table, test, x, list),
-        5 => list_subtree(table, test, x, list),
-        _ => list_by_scan(table, axis, test, x, list),
+        3 => list_descendants(table, read, x, list),
+        5 => list_subtree(table, read, x, list),
+        _ => list_by_scan(table, axis, read, x, list),
     }
 }
 
 // Those of any axis: each row is asked, in the order of the axis.
 fn list_by_scan(table: &[u32], axis: usize, test: usize, x: usize, list: &mut [u32]) -> usize
     requires { ⌜ (rows (now table) ≤ mostRows) × (x < 4294967296) × (rows (now table) ≤ length (now list)) ⌝ }
-    ensures { λ r. ⌜ (take r (now (list .exit)) ≡ candidates (now (table .entry)) (axisOf axis) (testOf test) x) × (r ≤ rows (now (table .entry))) ⌝ }
+    ensures { λ r. ⌜ (take r (now (list .exit)) ≡ candidates 2 (now (table .entry)) (axisOf axis) (testOf test) x) × (r ≤ rows (now (table .entry))) ⌝ }
 {
     let n = row_count(table);
     let reverse = is_reverse(axis);
@@ -57,7 +66,7 @@ fn list_by_scan(table: &[u32], axis: usize, test: usize, x: usize, list: &mut [u
 // Those of the descendant axis: the rows after x in its subtree.
 fn list_descendants(table: &[u32], test: usize, x: usize, list: &mut [u32]) -> usize
     requires { ⌜ (rows (now table) ≤ mostRows) × (x < 4294967296) × (rows (now table) ≤ length (now list)) ⌝ }
-    ensures { λ r. ⌜ (take r (now (list .exit)) ≡ candidates (now (table .entry)) descendant (testOf test) x) × (r ≤ rows (now (table .entry))) ⌝ }
+    ensures { λ r. ⌜ (take r (now (list .exit)) ≡ candidates 2 (now (table .entry)) descendant (testOf test) x) × (r ≤ rows (now (table .entry))) ⌝ }
 {
     let past = past_subtree(table, x);
     list_range(table, x, test, x + 1, past, list)
@@ -66,7 +75,7 @@ fn list_descendants(table: &[u32], test: usize, x: usize, list: &mut [u32]) -> u
 // Those of the descendant-or-self axis: the same, and x before them.
 fn list_subtree(table: &[u32], test: usize, x: usize, list: &mut [u32]) -> usize
     requires { ⌜ (rows (now table) ≤ mostRows) × (x < 4294967296) × (rows (now table) ≤ length (now list)) ⌝ }
-    ensures { λ r. ⌜ (take r (now (list .exit)) ≡ candidates (now (table .entry)) descendant-or-self (testOf test) x) × (r ≤ rows (now (table .entry))) ⌝ }
+    ensures { λ r. ⌜ (take r (now (list .exit)) ≡ candidates 2 (now (table .entry)) descendant-or-self (testOf test) x) × (r ≤ rows (now (table .entry))) ⌝ }
 {
     let past = past_subtree(table, x);
     list_range(table, x, test, x, past, list)
@@ -95,7 +104,7 @@ fn list_range(
     list: &mut [u32],
 ) -> usize
     requires { ⌜ (rows (now table) ≤ mostRows) × (to ≤ rows (now table)) × (rows (now table) ≤ length (now list)) ⌝ }
-    ensures { λ r. ⌜ (take r (now (list .exit)) ≡ keep (λ y. ownOrPlain (now (table .entry)) x y && passes (now (table .entry)) 1 (testOf test) y) (range (rows (now (table .entry))) from to)) × (r ≤ rows (now (table .entry))) ⌝ }
+    ensures { λ r. ⌜ (take r (now (list .exit)) ≡ keep (λ y. ownOrPlain (now (table .entry)) x y && passes 2 (now (table .entry)) 1 (testOf test) y) (range (rows (now (table .entry))) from to)) × (r ≤ rows (now (table .entry))) ⌝ }
 {
     let mut m = 0;
     let mut y = from;

@@ -41,6 +41,7 @@ pub extern "C" fn bt_check_path(path: &[u32], literals: &[f64], place: &mut u32)
 
 #[no_mangle]
 pub extern "C" fn bt_evaluate(
+    edition: u32,
     table: &[u32],
     path: &[u32],
     literals: &[f64],
@@ -48,9 +49,9 @@ pub extern "C" fn bt_evaluate(
     out: &mut [u32],
     place: &mut u32,
 ) -> u32
-    ensures { λ r. ⌜ EvaluatesPath (now (table .entry)) (now (path .entry)) (now (literals .entry)) start (now (out .entry)) (answer r (now (place .exit))) (now (out .exit)) ⌝ }
+    ensures { λ r. ⌜ EvaluatesPath edition (now (table .entry)) (now (path .entry)) (now (literals .entry)) start (now (out .entry)) (answer r (now (place .exit))) (now (out .exit)) ⌝ }
 {
-    let answer = evaluate(table, path, literals, start, out);
+    let answer = evaluate(edition, table, path, literals, start, out);
     *place = answer.place;
     answer.number
 }

@@ -42,14 +42,22 @@ pub fn answer_place(line: &[u8], at: usize, table: &[u32]) {
     write_place(line, place);
 }
 
-// `evaluate start room`
+// `evaluate edition start room`
 pub fn answer_evaluate(line: &[u8], at: usize, table: &[u32], path: &[u32], literals: &[f64]) {
-    let start = number_at(line, at);
+    let edition = number_at(line, at);
+    let start = number_at(line, edition.next);
     let size = number_at(line, start.next);
     let mut space = [UNTOUCHED; MOST_ENTRIES];
     let room = count_of(size.value, MOST_ENTRIES);
     let out = &mut space[..room];
-    let answer = select::evaluate(table, path, literals, small(start.value), out);
+    let answer = select::evaluate(
+        small(edition.value),
+        table,
+        path,
+        literals,
+        small(start.value),
+        out,
+    );
     write_answer(
         line,
         widened(answer),

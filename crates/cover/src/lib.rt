@@ -16,25 +16,33 @@ ghost use Rattle.cover.specs.Ready.{Ready};
 ghost use Rattle.cover.specs.Covered.{Covered, CoversActive};
 
 // Marks what the chain of steps that a link names may reach from the marked rows, and adds the rows on the way to those near.
-fn cover(table: &[u32], path: &[u32], link: usize, marks: &mut [bool], near: &mut [bool])
+fn cover(
+    edition: usize,
+    table: &[u32],
+    path: &[u32],
+    link: usize,
+    marks: &mut [bool],
+    near: &mut [bool],
+)
     requires { ⌜ Ready (now table) link ⌝ ∗ ⌜ (length (now marks) ≡ mostRows) × (length (now near) ≡ mostRows) ⌝ }
-    ensures { λ _. ⌜ Covered (now (table .entry)) (tree (now (path .entry)) link) (now (marks .entry)) (now (marks .exit)) (now (near .entry)) (now (near .exit)) ⌝ }
+    ensures { λ _. ⌜ Covered edition (now (table .entry)) (tree (now (path .entry)) link) (now (marks .entry)) (now (marks .exit)) (now (near .entry)) (now (near .exit)) ⌝ }
 {
     if link == 0 {
         return;
     }
     let row = link - 1;
     let before = first_link(path, row);
-    cover(table, path, before, marks, near);
+    cover(edition, table, path, before, marks, near);
     let axis = index_or_axis(path, row);
     reach(table, axis, marks);
     let test = test_at(path, row);
-    sift(table, axis, test, marks);
+    sift(edition, table, axis, test, marks);
     join(table, marks, near);
 }
 
 // Adds to those near every row that the chain of steps that a link names may come by from the active rows.
 pub fn cover_active(
+    edition: usize,
     table: &[u32],
     path: &[u32],
     link: usize,
@@ -43,9 +51,9 @@ pub fn cover_active(
     near: &mut [bool],
 )
     requires { ⌜ Ready (now table) link ⌝ ∗ ⌜ (length (now states) ≡ mostRows) × (length (now near) ≡ mostRows) ⌝ }
-    ensures { λ _. ⌜ CoversActive (now (table .entry)) (tree (now (path .entry)) link) active (now (states .entry)) (now (near .exit)) ⌝ }
+    ensures { λ _. ⌜ CoversActive edition (now (table .entry)) (tree (now (path .entry)) link) active (now (states .entry)) (now (near .exit)) ⌝ }
 {
     let mut reached = [true; MOST_ROWS];
     retain(states, active, &mut reached, row_count(table));
-    cover(table, path, link, &mut reached, near);
+    cover(edition, table, path, link, &mut reached, near);
 }

@@ -8,9 +8,9 @@ use lib.ListN.{getD}
 use Rattle.meaning.specs.Table.{rows}
 use Rattle.meaning.specs.Axis.{axisOf, principal, passes, testOf}
 
--- of the rows those stay marked that pass the test d of a step on the axis c
-unfoldable pub Sifted : List ℕ → ℕ → ℕ → List Bool → List Bool → Type 0
-Sifted t c d entry exit = (y : ℕ) → y < rows t → getD exit y false ≡ (getD entry y false && passes t (principal (axisOf c)) (testOf d) y)
+-- of the rows those stay marked that pass, in an edition, the test d of a step on the axis c
+unfoldable pub Sifted : ℕ → List ℕ → ℕ → ℕ → List Bool → List Bool → Type 0
+Sifted edition t c d entry exit = (y : ℕ) → y < rows t → getD exit y false ≡ (getD entry y false && passes edition t (principal (axisOf c)) (testOf d) y)
 
 -- of the rows those stay marked that the other set has too
 unfoldable pub Met : List ℕ → List Bool → List Bool → List Bool → Type 0

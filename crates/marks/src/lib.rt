@@ -1,4 +1,5 @@
 // A set of nodes as marks: mark y says whether node y is in the set. Lists of nodes are the marked rows, ascending.
+use axes::in_second;
 use axes::passes_test;
 use axes::principal;
 use basics::both;
@@ -59,19 +60,20 @@ pub fn copy_marks(table: &[u32], from: &[bool], to: &mut [bool])
     }
 }
 
-// Of the marked rows those stay marked that pass the test of a step on this axis. Every row passes test 0.
-pub fn sift(table: &[u32], axis: usize, test: usize, marks: &mut [bool])
+// Of the marked rows those stay marked that pass, in an edition, the test of a step on this axis. Every row passes test 0.
+pub fn sift(edition: usize, table: &[u32], axis: usize, test: usize, marks: &mut [bool])
     requires { ⌜ (rows (now table) ≤ mostRows) × (rows (now table) ≤ length (now marks)) ⌝ }
-    ensures { λ _. ⌜ Sifted (now (table .entry)) axis test (now (marks .entry)) (now (marks .exit)) ⌝ }
+    ensures { λ _. ⌜ Sifted edition (now (table .entry)) axis test (now (marks .entry)) (now (marks .exit)) ⌝ }
 {
-    if test == 0 {
+    let read = in_second(edition, test);
+    if read == 0 {
         return;
     }
     let kind = principal(axis);
     let n = row_count(table);
     let mut i = 0;
     while i < n {
-        marks[i] = both(marks[i], passes_test(table, kind, test, i));
+        marks[i] = both(marks[i], passes_test(table, kind, read, i));
         i += 1;
     }
 }

@@ -30,10 +30,10 @@ pub usual-step : (b : Tree) (c : ℕ) → isOfAttributes b c ≡ false → princ
 usual-step b c e = principal-kind c ∙ rw e
 
 -- predicates keep of a list what stands in it
-filtered-among : (t : List ℕ) (literals : List Float) (e : Tree) (l : List ℕ) (y : ℕ) → T (has (filtered t literals e l) y) → T (has l y)
+filtered-among : (edition : ℕ) (t : List ℕ) (literals : List Float) (e : Tree) (l : List ℕ) (y : ℕ) → T (has (filtered edition t literals e l) y) → T (has l y)
 unfolding filtered
-filtered-among t literals none l y h = h
-filtered-among t literals (node op a b c d) l y h = filtered-among t literals a l y (keepAt-among _ 1 (filtered t literals a l) y h)
+filtered-among edition t literals none l y h = h
+filtered-among edition t literals (node op a b c d) l y h = filtered-among edition t literals a l y (keepAt-among _ 1 (filtered edition t literals a l) y h)
 
 module _ (t : List ℕ) (acc : accepted t ≡ true) where
   -- the root is no attribute
@@ -88,22 +88,22 @@ module _ (t : List ℕ) (acc : accepted t ≡ true) where
   stays-plain A.attribute u x y h k = absurd (omega arith)
 
   -- a walk from nodes that are no attributes, without a step on the attribute axis, meets none, whatever its predicates count
-  pub walk-stays-plain : (literals : List Float) (s : Tree) → ofAttributes s ≡ false → (set : List ℕ) → ((x : ℕ) → T (has set x) → Plain t x)
-      → (y : ℕ) → T (has (walk t literals s set) y) → Plain t y
+  pub walk-stays-plain : (edition : ℕ) (literals : List Float) (s : Tree) → ofAttributes s ≡ false → (set : List ℕ) → ((x : ℕ) → T (has set x) → Plain t x)
+      → (y : ℕ) → T (has (walk edition t literals s set) y) → Plain t y
   unfolding walk union someStep
-  walk-stays-plain literals none u set plain y h = plain y h
-  walk-stays-plain literals (node op a b c d) u set plain y h =
-      let w : List ℕ = walk t literals a set in
-      let step : ℕ → List ℕ = λ x. filtered t literals b (candidates t (axisOf c) (testOf d) x) in
+  walk-stays-plain edition literals none u set plain y h = plain y h
+  walk-stays-plain edition literals (node op a b c d) u set plain y h =
+      let w : List ℕ = walk edition t literals a set in
+      let step : ℕ → List ℕ = λ x. filtered edition t literals b (candidates edition t (axisOf c) (testOf d) x) in
       let r = has-keep-to (λ y. some (λ x. has (step x) y) w) (upTo (rows t)) y h in
       let q = some-to (λ x. has (step x) y) w (r .0) in
       let x : ℕ = q .0 in
       let low : y < rows t = has-upTo-to (rows t) y (r .1) in
-      let m : T (has (candidates t (axisOf c) (testOf d) x) y) = filtered-among t literals b (candidates t (axisOf c) (testOf d) x) y (q .1) in
-      let o : T (placed t (axisOf c) x y) = and-l (placed t (axisOf c) x y) (passes t (principal (axisOf c)) (testOf d) y) (rw (candidate-is t (axisOf c) x (testOf d) y) at m) in (
+      let m : T (has (candidates edition t (axisOf c) (testOf d) x) y) = filtered-among edition t literals b (candidates edition t (axisOf c) (testOf d) x) y (q .1) in
+      let o : T (placed t (axisOf c) x y) = and-l (placed t (axisOf c) x y) (passes edition t (principal (axisOf c)) (testOf d) y) (rw (candidate-is edition t (axisOf c) x (testOf d) y) at m) in (
         low,
         stays-plain (axisOf c) (usual-step b c (or-none-r (ofAttributes a) (isOfAttributes b c) u)) x y
-            (walk-stays-plain literals a (or-none-l (ofAttributes a) (isOfAttributes b c) u) set plain x (q .2)) (rw (placed-on t (axisOf c) x y low) at o),
+            (walk-stays-plain edition literals a (or-none-l (ofAttributes a) (isOfAttributes b c) u) set plain x (q .2)) (rw (placed-on t (axisOf c) x y low) at o),
       )
 
   -- ---- where attributes stand

@@ -47,10 +47,10 @@ shuffle : (o f g : Bool) → ((o && f) && g) ≡ ((g && f) && o)
 shuffle true f g = rw (and-true (g && f)) (and-comm f g)
 shuffle false f g = sym (and-false (g && f))
 
-module _ (t : List ℕ) (literals : List Float) where
+module _ (edition : ℕ) (t : List ℕ) (literals : List Float) where
   -- the nodes from which one step leads to a good node
   unfoldable pub before : ℕ → ℕ → Tree → (ℕ → Bool) → ℕ → Bool
-  before c d e good w = some (λ z. (good z && fits t literals (principal (axisOf c)) (testOf d) e z) && on t (axisOf c) w z) (upTo (rows t))
+  before c d e good w = some (λ z. (good z && fits edition t literals (principal (axisOf c)) (testOf d) e z) && on t (axisOf c) w z) (upTo (rows t))
 
   -- the nodes from which a chain of steps leads to a good node
   unfoldable pub backs : Tree → (ℕ → Bool) → ℕ → Bool
@@ -58,14 +58,14 @@ module _ (t : List ℕ) (literals : List Float) where
   backs (node op a b c d) good = backs a (before c d b good)
 
   -- a chain whose steps do not count leads from a set to some good node exactly if some node of the set is led back to
-  pub walk-back : (s : Tree) → counts s ≡ false → (good : ℕ → Bool) (set : List ℕ) → some good (walk t literals s set) ≡ some (backs s good) set
+  pub walk-back : (s : Tree) → counts s ≡ false → (good : ℕ → Bool) (set : List ℕ) → some good (walk edition t literals s set) ≡ some (backs s good) set
   unfolding walk backs someStep before
   walk-back none h good set = refl
   walk-back (node op a b c d) h good set =
-      let w : List ℕ = walk t literals a set in
-      let f : ℕ → Bool = fits t literals (principal (axisOf c)) (testOf d) b in
+      let w : List ℕ = walk edition t literals a set in
+      let f : ℕ → Bool = fits edition t literals (principal (axisOf c)) (testOf d) b in
       let o : ℕ → ℕ → Bool = placed t (axisOf c) in
-      ap (some good) (free-walk t literals op a b c d set (or-none-r (counts a) (counting b) h))
+      ap (some good) (free-walk edition t literals op a b c d set (or-none-r (counts a) (counting b) h))
       ∙ some-keep good (λ y. some (λ x. o x y && f y) w) (upTo (rows t))
       ∙ some-same (λ y. some (λ x. o x y && f y) w && good y) (λ y. some (λ x. (o x y && f y) && good y) w) (upTo (rows t)) (λ y. sym (some-and (λ x. o x y && f y) (good y) w))
       ∙ some-swap (λ y x. (o x y && f y) && good y) (upTo (rows t)) w
@@ -75,22 +75,22 @@ module _ (t : List ℕ) (literals : List Float) where
       ∙ walk-back a (or-none-l (counts a) (counting b) h) (before c d b good) set
 
   -- a relative path whose steps do not count selects something from y exactly when y is reached back from all nodes
-  pub exists-back : (s : Tree) → counts s ≡ false → (op : Op) (b : Tree) (c d : ℕ) → isAbsolute op ≡ false → (y : ℕ) → y < rows t → ltb 0 (length (select t literals (node op s b c d) y)) ≡ backs s (λ z. true) y
+  pub exists-back : (s : Tree) → counts s ≡ false → (op : Op) (b : Tree) (c d : ℕ) → isAbsolute op ≡ false → (y : ℕ) → y < rows t → ltb 0 (length (select edition t literals (node op s b c d) y)) ≡ backs s (λ z. true) y
   unfolding select startOf
   exists-back s h op b c d relative y l =
       let start : List ℕ = keep (eqb y) (upTo (rows t)) in
       rw relative
-      (sym (some-all (walk t literals s start))
+      (sym (some-all (walk edition t literals s start))
       ∙ walk-back s h (λ z. true) start
       ∙ some-one (backs s (λ z. true)) (rows t) y l)
 
   -- one step back from the good nodes that fit
-  pub before-by : (c d : ℕ) (e : Tree) (good fit : ℕ → Bool) → ((z : ℕ) → z < rows t → fit z ≡ (good z && fits t literals (principal (axisOf c)) (testOf d) e z)) → (w : ℕ) → some (λ z. fit z && on t (axisOf c) w z) (upTo (rows t)) ≡ before c d e good w
+  pub before-by : (c d : ℕ) (e : Tree) (good fit : ℕ → Bool) → ((z : ℕ) → z < rows t → fit z ≡ (good z && fits edition t literals (principal (axisOf c)) (testOf d) e z)) → (w : ℕ) → some (λ z. fit z && on t (axisOf c) w z) (upTo (rows t)) ≡ before c d e good w
   unfolding before
   before-by c d e good fit h w = some-below _ _ (rows t) (λ z l. rw (h z l))
 
   -- an absolute path selects the same from every node
-  pub absolute-anywhere : (op : Op) (s b : Tree) (c d : ℕ) → isAbsolute op ≡ true → (x y : ℕ) → select t literals (node op s b c d) x ≡ select t literals (node op s b c d) y
+  pub absolute-anywhere : (op : Op) (s b : Tree) (c d : ℕ) → isAbsolute op ≡ true → (x y : ℕ) → select edition t literals (node op s b c d) x ≡ select edition t literals (node op s b c d) y
   unfolding select startOf
   absolute-anywhere op s b c d absolute x y = rw absolute
 
@@ -98,69 +98,69 @@ module _ (t : List ℕ) (literals : List Float) where
 
   module _ (a b : Tree) (c d y : ℕ) where
     -- and, or, not: by their operands; existence: by what the path selects
-    pub true-and : true-at t literals (node R.and a b c d) y ≡ (true-at t literals a y && true-at t literals b y)
+    pub true-and : true-at edition t literals (node R.and a b c d) y ≡ (true-at edition t literals a y && true-at edition t literals b y)
     unfolding value applied
     true-and = refl
 
-    pub true-or : true-at t literals (node R.or a b c d) y ≡ (true-at t literals a y || true-at t literals b y)
+    pub true-or : true-at edition t literals (node R.or a b c d) y ≡ (true-at edition t literals a y || true-at edition t literals b y)
     unfolding value applied
     true-or = refl
 
-    pub true-not : true-at t literals (node R.negation a b c d) y ≡ not (true-at t literals a y)
+    pub true-not : true-at edition t literals (node R.negation a b c d) y ≡ not (true-at edition t literals a y)
     unfolding value applied
     true-not = refl
 
-    pub true-exists : true-at t literals (node R.exists a b c d) y ≡ ltb 0 (length (select t literals a y))
+    pub true-exists : true-at edition t literals (node R.exists a b c d) y ≡ ltb 0 (length (select edition t literals a y))
     unfolding value applied
     true-exists = refl
 
 -- ---- rows, stated over what code has read of them
 
-module _ (t : List ℕ) (literals : List Float) (p : List ℕ) (l : ℕ) where
+module _ (edition : ℕ) (t : List ℕ) (literals : List Float) (p : List ℕ) (l : ℕ) where
   -- no predicates: all hold
-  pub ok-none : (y : ℕ) → l ≡ 0 → true ≡ ok t literals (tree p l) y
+  pub ok-none : (y : ℕ) → l ≡ 0 → true ≡ ok edition t literals (tree p l) y
   unfolding ok
   ok-none y e = rw (e, tree-zero p)
 
   module _ (some-row : (l ≡ 0) → ⊥) (a : ℕ) (is-first : a ≡ firstLink p (l - 1)) where
     module _ (b : ℕ) (is-second : b ≡ secondLink p (l - 1)) where
       -- a predicate: those before it, and its own truth
-      pub ok-row : (y : ℕ) → (ok t literals (tree p a) y && true-at t literals (tree p b) y) ≡ ok t literals (tree p l) y
+      pub ok-row : (y : ℕ) → (ok edition t literals (tree p a) y && true-at edition t literals (tree p b) y) ≡ ok edition t literals (tree p l) y
       unfolding ok
       ok-row y = rw (tree-row p l some-row, ← is-first, ← is-second)
 
     module _ (op : ℕ) (is-op : op ≡ field p (l - 1) 0) where
       module _ (b : ℕ) (is-second : b ≡ secondLink p (l - 1)) where
         -- and, or, not, existence: the same of rows
-        pub and-row : op ≡ 16 → (y : ℕ) → (true-at t literals (tree p a) y && true-at t literals (tree p b) y) ≡ true-at t literals (tree p l) y
+        pub and-row : op ≡ 16 → (y : ℕ) → (true-at edition t literals (tree p a) y && true-at edition t literals (tree p b) y) ≡ true-at edition t literals (tree p l) y
         unfolding opOf
-        and-row e y = rw (tree-row p l some-row, ← is-first, ← is-second, ← is-op, e) (sym (true-and t literals (tree p a) (tree p b) (indexOrAxis p (l - 1)) (testAt p (l - 1)) y))
+        and-row e y = rw (tree-row p l some-row, ← is-first, ← is-second, ← is-op, e) (sym (true-and edition t literals (tree p a) (tree p b) (indexOrAxis p (l - 1)) (testAt p (l - 1)) y))
 
-        pub or-row : op ≡ 17 → (y : ℕ) → (true-at t literals (tree p a) y || true-at t literals (tree p b) y) ≡ true-at t literals (tree p l) y
+        pub or-row : op ≡ 17 → (y : ℕ) → (true-at edition t literals (tree p a) y || true-at edition t literals (tree p b) y) ≡ true-at edition t literals (tree p l) y
         unfolding opOf
-        or-row e y = rw (tree-row p l some-row, ← is-first, ← is-second, ← is-op, e) (sym (true-or t literals (tree p a) (tree p b) (indexOrAxis p (l - 1)) (testAt p (l - 1)) y))
+        or-row e y = rw (tree-row p l some-row, ← is-first, ← is-second, ← is-op, e) (sym (true-or edition t literals (tree p a) (tree p b) (indexOrAxis p (l - 1)) (testAt p (l - 1)) y))
 
         -- the two under one head: an or where any, else an and
-        pub pair-row : (any : Bool) → op ≡ cond any 17 16 → (y : ℕ) → cond any (true-at t literals (tree p a) y || true-at t literals (tree p b) y) (true-at t literals (tree p a) y && true-at t literals (tree p b) y) ≡ true-at t literals (tree p l) y
+        pub pair-row : (any : Bool) → op ≡ cond any 17 16 → (y : ℕ) → cond any (true-at edition t literals (tree p a) y || true-at edition t literals (tree p b) y) (true-at edition t literals (tree p a) y && true-at edition t literals (tree p b) y) ≡ true-at edition t literals (tree p l) y
         pair-row true e y = or-row e y
         pair-row false e y = and-row e y
 
-      pub not-row : op ≡ 18 → (y : ℕ) → not (true-at t literals (tree p a) y) ≡ true-at t literals (tree p l) y
+      pub not-row : op ≡ 18 → (y : ℕ) → not (true-at edition t literals (tree p a) y) ≡ true-at edition t literals (tree p l) y
       unfolding opOf
-      not-row e y = rw (tree-row p l some-row, ← is-first, ← is-op, e) (sym (true-not t literals (tree p a) (tree p (secondLink p (l - 1))) (indexOrAxis p (l - 1)) (testAt p (l - 1)) y))
+      not-row e y = rw (tree-row p l some-row, ← is-first, ← is-op, e) (sym (true-not edition t literals (tree p a) (tree p (secondLink p (l - 1))) (indexOrAxis p (l - 1)) (testAt p (l - 1)) y))
 
-      pub exists-row : op ≡ 20 → (y : ℕ) → ltb 0 (length (select t literals (tree p a) y)) ≡ true-at t literals (tree p l) y
+      pub exists-row : op ≡ 20 → (y : ℕ) → ltb 0 (length (select edition t literals (tree p a) y)) ≡ true-at edition t literals (tree p l) y
       unfolding opOf
-      exists-row e y = rw (tree-row p l some-row, ← is-first, ← is-op, e) (sym (true-exists t literals (tree p a) (tree p (secondLink p (l - 1))) (indexOrAxis p (l - 1)) (testAt p (l - 1)) y))
+      exists-row e y = rw (tree-row p l some-row, ← is-first, ← is-op, e) (sym (true-exists edition t literals (tree p a) (tree p (secondLink p (l - 1))) (indexOrAxis p (l - 1)) (testAt p (l - 1)) y))
 
       -- a relative path whose steps do not count
-      pub relative-row : (op ≡ 23 → ⊥) → counts (tree p a) ≡ false → (y : ℕ) → y < rows t → backs t literals (tree p a) (λ z. true) y ≡ ltb 0 (length (select t literals (tree p l) y))
+      pub relative-row : (op ≡ 23 → ⊥) → counts (tree p a) ≡ false → (y : ℕ) → y < rows t → backs edition t literals (tree p a) (λ z. true) y ≡ ltb 0 (length (select edition t literals (tree p l) y))
       relative-row q free y k =
           let relative : isAbsolute (opOf op) ≡ false = unfold isAbsolute in (op-is 23 op (omega arith) (omega arith) ∙ ne-eqb op 23 q) in
-          rw (tree-row p l some-row, ← is-first, ← is-op) (sym (exists-back t literals (tree p a) free (opOf op) (tree p (secondLink p (l - 1))) (indexOrAxis p (l - 1)) (testAt p (l - 1)) relative y k))
+          rw (tree-row p l some-row, ← is-first, ← is-op) (sym (exists-back edition t literals (tree p a) free (opOf op) (tree p (secondLink p (l - 1))) (indexOrAxis p (l - 1)) (testAt p (l - 1)) relative y k))
 
       -- an absolute path
-      pub absolute-row : op ≡ 23 → (x y : ℕ) → select t literals (tree p l) x ≡ select t literals (tree p l) y
+      pub absolute-row : op ≡ 23 → (x y : ℕ) → select edition t literals (tree p l) x ≡ select edition t literals (tree p l) y
       absolute-row e x y =
           let absolute : isAbsolute (opOf op) ≡ true = rw e (unfold isAbsolute opOf code in refl) in
-          rw (tree-row p l some-row, ← is-op) (absolute-anywhere t literals (opOf op) (tree p (firstLink p (l - 1))) (tree p (secondLink p (l - 1))) (indexOrAxis p (l - 1)) (testAt p (l - 1)) absolute x y)
+          rw (tree-row p l some-row, ← is-op) (absolute-anywhere edition t literals (opOf op) (tree p (firstLink p (l - 1))) (tree p (secondLink p (l - 1))) (indexOrAxis p (l - 1)) (testAt p (l - 1)) absolute x y)

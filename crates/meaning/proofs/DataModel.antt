@@ -116,14 +116,14 @@ module _ (t : List ℕ) (acc : accepted t ≡ true) where
       (search (and-l, and-r), search (and-l, and-r), search (and-l, and-r), search (and-l, and-r))
 
   -- the children of the root that pass a test
-  of-root : (u : A.Test) → candidates t A.child u 0 ≡ keep (λ y. on t A.child 0 y && passes t 1 u y) (upTo (rows t))
+  of-root : (edition : ℕ) (u : A.Test) → candidates edition t A.child u 0 ≡ keep (λ y. on t A.child 0 y && passes edition t 1 u y) (upTo (rows t))
   unfolding candidates axisNodes isReverse ordered principal
-  of-root u = keep-keep (on t A.child 0) (passes t 1 u) (upTo (rows t))
+  of-root edition u = keep-keep (on t A.child 0) (passes edition t 1 u) (upTo (rows t))
 
   -- none is text
-  pub no-text-of-root : candidates t A.child A.text 0 ≡ []
+  pub no-text-of-root : (edition : ℕ) → candidates edition t A.child A.text 0 ≡ []
   unfolding on under passes textOfRoot
-  no-text-of-root = of-root A.text ∙ keep-none (λ y. on t A.child 0 y && passes t 1 A.text y) (upTo (rows t)) (λ i h.
+  no-text-of-root edition = of-root edition A.text ∙ keep-none (λ y. on t A.child 0 y && passes edition t 1 A.text y) (upTo (rows t)) (λ i h.
       let l : i < rows t = rw length-upTo at h in
       rw (← upTo-at (rows t) i l) (is-false (ltb 0 i && eqb (parentOf t i) 0 && not (isAttribute t i) && isText t i) (λ b.
       let p : T (ltb 0 i) = search (and-l, and-r) in
@@ -139,17 +139,17 @@ module _ (t : List ℕ) (acc : accepted t ≡ true) where
       let h : T (hasElement t) = search (and-l, and-r) in
       lowest-found (isElement t) (rows t) (is-true (hasElement t) h)
 
-  -- exactly one is an element
-  pub one-element-of-root : length (candidates t A.child A.star 0) ≡ 1
+  -- exactly one is an element, as `*` has it in edition 2
+  pub one-element-of-root : length (candidates 2 t A.child A.star 0) ≡ 1
   unfolding on under passes elementOfRoot laterElement
   one-element-of-root =
       let x : ℕ = lowest (isElement t) (rows t) in
       let q : T (elementOfRoot t x) = first-of-root t (rows t) (whole t acc) x (first .below) (truly (first .holds)) (first .first) in
-      let is : ℕ → Bool = λ y. on t A.child 0 y && passes t 1 A.star y in
+      let is : ℕ → Bool = λ y. on t A.child 0 y && passes 2 t 1 A.star y in
       let p : T (ltb 0 x) = lt→ltb 0 x (inner t (rows t) (whole t acc) x 0 (first .below) (eqb→eq (kind t x) 1 (truly (first .holds)))) in
       let at-first : T (is x) = rw (is-true (ltb 0 x) p, is-true (eqb (parentOf t x) 0) (and-r (isElement t x) (eqb (parentOf t x) 0) q), element-plain t x (truly (first .holds))) (truly (first .holds)) in
       rw (
-        of-root A.star,
+        of-root 2 A.star,
         keep-range (rows t) x (x + 1) (omega (arith, first .below)) is (λ y. true)
             (λ y l. rw (first .first y l, and-false (on t A.child 0 y)))
             (λ y k l. is-false (is y) (λ b.

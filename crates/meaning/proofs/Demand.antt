@@ -184,7 +184,7 @@ pub record Round (p q : List ℕ) (literals : List Float) : Type 0 where
   pub one-more : rowsOf q ≡ rowsOf p + 1
   pub five-a-row : length q ≡ 5 * (rowsOf p + 1)
   pub read : pathTree q ≡ turned (pathTree p)
-  pub round : (t : List ℕ) → accepted t ≡ true → (x y : ℕ) → Plain t x → Plain t y → has (selected t p literals x) y ≡ has (selected t q literals y) x
+  pub round : (edition : ℕ) (t : List ℕ) → accepted t ≡ true → (x y : ℕ) → Plain t x → Plain t y → has (selected edition t p literals x) y ≡ has (selected edition t q literals y) x
 
 -- a path that is not absolute is relative
 pub relative-is : (op : Op) → isPath op ≡ true → isAbsolute op ≡ false → op ≡ R.relative
@@ -216,7 +216,7 @@ module _ (p : List ℕ) (literals : List Float) where
         one-more = n;
         five-a-row = omega (arith, length-written 0 (turned E));
         read = read ∙ ap turned (sym e);
-        round = λ t acc x y h k. rw (e, read) (turned-selects-back t literals R.relative s b c d refl none-counts none-of-attributes acc x y h k);
+        round = λ edition t acc x y h k. rw (e, read) (turned-selects-back edition t literals R.relative s b c d refl none-counts none-of-attributes acc x y h k);
       })
 
   -- demand 3: where turning gives 0, the turned rows are the path turned round
@@ -236,13 +236,13 @@ module _ (p : List ℕ) (literals : List Float) where
 
 -- why demand 3 leaves attributes out and loses nothing: without a top-level step on the attribute axis a path selects from a node that is no
 -- attribute none that is one, whatever it counts and wherever it starts
-pub selects-no-attribute : (p : List ℕ) (literals : List Float) → attributeStep (pathTree p) ≡ 0 → (t : List ℕ) → accepted t ≡ true → (x : ℕ) → Plain t x
-    → (y : ℕ) → T (has (selected t p literals x) y) → Plain t y
+pub selects-no-attribute : (p : List ℕ) (literals : List Float) → attributeStep (pathTree p) ≡ 0 → (edition : ℕ) (t : List ℕ) → accepted t ≡ true → (x : ℕ) → Plain t x
+    → (y : ℕ) → T (has (selected edition t p literals x) y) → Plain t y
 selects-no-attribute p literals = by (pathTree p)
   where
-    by : (s : Tree) → attributeStep s ≡ 0 → (t : List ℕ) → accepted t ≡ true → (x : ℕ) → Plain t x → (y : ℕ) → T (has (select t literals s x) y) → Plain t y
-    by none e t acc x h y k = absurd (unfold select some in k)
-    by (node op a b c d) e t acc x h y k = walk-stays-plain t acc literals a usual (startOf t op x) from-plain y (unfold select in k)
+    by : (s : Tree) → attributeStep s ≡ 0 → (edition : ℕ) (t : List ℕ) → accepted t ≡ true → (x : ℕ) → Plain t x → (y : ℕ) → T (has (select edition t literals s x) y) → Plain t y
+    by none e edition t acc x h y k = absurd (unfold select some in k)
+    by (node op a b c d) e edition t acc x h y k = walk-stays-plain t acc edition literals a usual (startOf t op x) from-plain y (unfold select in k)
       where
         usual : ofAttributes a ≡ false
         usual =
@@ -255,6 +255,6 @@ selects-no-attribute p literals = by (pathTree p)
 -- where the turned rows are turned again, the rows turned twice select y from x exactly when the path does, on every accepted table and
 -- for nodes that are no attributes
 pub turned-twice : (p : List ℕ) (literals : List Float) (room again : ℕ) → turning p literals room .number ≡ 0 → turning (turnedRows p) literals again .number ≡ 0
-    → (t : List ℕ) → accepted t ≡ true → (x y : ℕ) → Plain t x → Plain t y → has (selected t (turnedRows (turnedRows p)) literals x) y ≡ has (selected t p literals x) y
-turned-twice p literals room again given given-again t acc x y h k =
-    sym (demand-three p literals room given .round t acc x y h k ∙ demand-three (turnedRows p) literals again given-again .round t acc y x k h)
+    → (edition : ℕ) (t : List ℕ) → accepted t ≡ true → (x y : ℕ) → Plain t x → Plain t y → has (selected edition t (turnedRows (turnedRows p)) literals x) y ≡ has (selected edition t p literals x) y
+turned-twice p literals room again given given-again edition t acc x y h k =
+    sym (demand-three p literals room given .round edition t acc x y h k ∙ demand-three (turnedRows p) literals again given-again .round edition t acc y x k h)

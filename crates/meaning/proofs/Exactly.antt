@@ -15,7 +15,7 @@ use Rattle.meaning.specs.Lists.{upTo, some, lowest}
 use Rattle.meaning.specs.Table.{rows, lengthAllowed, broken, accepted}
 use Rattle.meaning.specs.Rows.{rowsOf, mostPathRows, pathLengthAllowed, badLiteralAt, brokenRow}
 use Rattle.meaning.specs.Tree.{depth, mostDepth}
-use Rattle.meaning.specs.Answers.{answer, check, tableChecks, tableAnswer, pathTree, pathChecks, pathAnswer, selected, evaluation, countingStep, attributeStep, absolutePath, turning}
+use Rattle.meaning.specs.Answers.{answer, check, tableChecks, tableAnswer, pathTree, pathChecks, pathAnswer, isEdition, selected, evaluation, countingStep, attributeStep, absolutePath, turning}
 use Rattle.meaning.specs.declared.Answer.{Answer}
 use Rattle.meaning.proofs.Bools.{is-true, or-e, truly, or-none-l, or-none-r}
 use Rattle.meaning.proofs.Lists.{IsLowest, none-below, below-none, lowest-found, found-lowest, found-some}
@@ -62,16 +62,17 @@ TableGives t a = RefusedTable t a ⊎ ((accepted t ≡ true) × (a ≡ answer 0 
 abbrev pub PathGives : List ℕ → List Float → Answer → Type 0
 PathGives p literals a = RefusedPath p literals a ⊎ (GoodPath p literals × (a ≡ answer 0 (rowsOf p)))
 
--- evaluation. 7: start node not below the row count; 8: more selected than the output holds; 0: done, with the count written
-module _ (t p : List ℕ) (literals : List Float) (start room : ℕ) where
+-- evaluation. 14: no edition; 7: start node not below the row count; 8: more selected than the output holds; 0: done, with the count written
+module _ (edition : ℕ) (t p : List ℕ) (literals : List Float) (start room : ℕ) where
   pub data EvaluationGives : Answer → Type 0 where
-    table-refused : {a : Answer} → RefusedTable t a → EvaluationGives a
-    path-refused : {a : Answer} → accepted t ≡ true → RefusedPath p literals a → EvaluationGives a
-    start-outside : accepted t ≡ true → GoodPath p literals → rows t ≤ start → EvaluationGives (answer 7 start)
-    too-many : accepted t ≡ true → GoodPath p literals → start < rows t → room < length (selected t p literals start)
-        → EvaluationGives (answer 8 (length (selected t p literals start)))
-    selects : accepted t ≡ true → GoodPath p literals → start < rows t → length (selected t p literals start) ≤ room
-        → EvaluationGives (answer 0 (length (selected t p literals start)))
+    no-edition : isEdition edition ≡ false → EvaluationGives (answer 14 edition)
+    table-refused : {a : Answer} → isEdition edition ≡ true → RefusedTable t a → EvaluationGives a
+    path-refused : {a : Answer} → isEdition edition ≡ true → accepted t ≡ true → RefusedPath p literals a → EvaluationGives a
+    start-outside : isEdition edition ≡ true → accepted t ≡ true → GoodPath p literals → rows t ≤ start → EvaluationGives (answer 7 start)
+    too-many : isEdition edition ≡ true → accepted t ≡ true → GoodPath p literals → start < rows t → room < length (selected edition t p literals start)
+        → EvaluationGives (answer 8 (length (selected edition t p literals start)))
+    selects : isEdition edition ≡ true → accepted t ≡ true → GoodPath p literals → start < rows t → length (selected edition t p literals start) ≤ room
+        → EvaluationGives (answer 0 (length (selected edition t p literals start)))
 
 module _ (p : List ℕ) (literals : List Float) (room : ℕ) where
   -- what a path has that is turned
@@ -180,30 +181,33 @@ check-path-exactly p literals a = (
   ⊎-elim (λ r. path-refuses p literals _ r) (λ h. path-lets p literals _ (h .0) ∙ sym (h .1)),
 )
 
-module _ (t p : List ℕ) (literals : List Float) (start room : ℕ) where
-  evaluation-to : EvaluationGives t p literals start room (evaluation t p literals start room)
+module _ (edition : ℕ) (t p : List ℕ) (literals : List Float) (start room : ℕ) where
+  evaluation-to : EvaluationGives edition t p literals start room (evaluation edition t p literals start room)
   unfolding evaluation
   evaluation-to =
-      let Gives : Answer → Type 0 = EvaluationGives t p literals start room in
-      let n : ℕ = length (selected t p literals start) in
-      table-cases Gives t _ (λ a r. table-refused r) (λ ok.
-      path-cases Gives p literals _ (λ a r. path-refused ok r) (λ good.
-      check-cases Gives (leb (rows t) start) 7 start _ (λ e. start-outside ok good (leb-true (rows t) start e)) (λ e.
+      let Gives : Answer → Type 0 = EvaluationGives edition t p literals start room in
+      let n : ℕ = length (selected edition t p literals start) in
+      check-cases Gives (not (isEdition edition)) 14 edition _ (λ i. no-edition (not-true (isEdition edition) i)) (λ i.
+      let known : isEdition edition ≡ true = not-false (isEdition edition) i in
+      table-cases Gives t _ (λ a r. table-refused known r) (λ ok.
+      path-cases Gives p literals _ (λ a r. path-refused known ok r) (λ good.
+      check-cases Gives (leb (rows t) start) 7 start _ (λ e. start-outside known ok good (leb-true (rows t) start e)) (λ e.
       check-cases Gives (ltb room n) 8 n (answer 0 n)
-      (λ f. too-many ok good (leb-false (rows t) start e) (ltb-true room n f))
-      (λ f. selects ok good (leb-false (rows t) start e) (ltb-false room n f)))))
+      (λ f. too-many known ok good (leb-false (rows t) start e) (ltb-true room n f))
+      (λ f. selects known ok good (leb-false (rows t) start e) (ltb-false room n f))))))
 
-  evaluation-from : {a : Answer} → EvaluationGives t p literals start room a → evaluation t p literals start room ≡ a
+  evaluation-from : {a : Answer} → EvaluationGives edition t p literals start room a → evaluation edition t p literals start room ≡ a
   unfolding evaluation
-  evaluation-from (table-refused r) = table-refuses t _ r
-  evaluation-from (path-refused ok r) = table-lets t _ ok ∙ path-refuses p literals _ r
-  evaluation-from (start-outside ok good h) = table-lets t _ ok ∙ path-lets p literals _ good ∙ rw (le-leb (rows t) start h)
-  evaluation-from (too-many ok good h k) = table-lets t _ ok ∙ path-lets p literals _ good ∙ rw (lt-leb (rows t) start h, lt-ltb room (length (selected t p literals start)) k)
-  evaluation-from (selects ok good h k) = table-lets t _ ok ∙ path-lets p literals _ good ∙ rw (lt-leb (rows t) start h, le-ltb room (length (selected t p literals start)) k)
+  evaluation-from (no-edition u) = rw u
+  evaluation-from (table-refused known r) = rw known (table-refuses t _ r)
+  evaluation-from (path-refused known ok r) = rw known (table-lets t _ ok ∙ path-refuses p literals _ r)
+  evaluation-from (start-outside known ok good h) = rw known (table-lets t _ ok ∙ path-lets p literals _ good ∙ rw (le-leb (rows t) start h))
+  evaluation-from (too-many known ok good h k) = rw known (table-lets t _ ok ∙ path-lets p literals _ good ∙ rw (lt-leb (rows t) start h, lt-ltb room (length (selected edition t p literals start)) k))
+  evaluation-from (selects known ok good h k) = rw known (table-lets t _ ok ∙ path-lets p literals _ good ∙ rw (lt-leb (rows t) start h, le-ltb room (length (selected edition t p literals start)) k))
 
-  -- evaluation gives 0 to 8
-  pub evaluation-exactly : (a : Answer) → (evaluation t p literals start room ≡ a) ↔ EvaluationGives t p literals start room a
-  evaluation-exactly a = (λ e. subst (EvaluationGives t p literals start room) e evaluation-to, evaluation-from)
+  -- evaluation gives 0 to 8 and 14
+  pub evaluation-exactly : (a : Answer) → (evaluation edition t p literals start room ≡ a) ↔ EvaluationGives edition t p literals start room a
+  evaluation-exactly a = (λ e. subst (EvaluationGives edition t p literals start room) e evaluation-to, evaluation-from)
 
 module _ (p : List ℕ) (literals : List Float) (room : ℕ) where
   turning-to : TurningGives p literals room (turning p literals room)

@@ -7,6 +7,7 @@ pub mod Attributes
 pub mod Axes
 pub mod DataModel
 pub mod Decoding
+pub mod Editions
 pub mod Trees
 pub mod Applied
 pub mod Free

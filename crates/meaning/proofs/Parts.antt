@@ -15,7 +15,7 @@ use Rattle.meaning.specs.Lists.{keep, some, upTo, has}
 use Rattle.meaning.specs.Table.{rows, end, isAttribute, accepted}
 use Rattle.meaning.specs.Axis.{Axis, axisOf, lastAxis, inside, after, on, testOf, passes}
 use Rattle.meaning.specs.Axis as A
-use Rattle.meaning.specs.Answers.{answer, pathTree, pathChecks, pathAnswer, selected, evaluation, output, evaluated}
+use Rattle.meaning.specs.Answers.{answer, pathTree, pathChecks, pathAnswer, isEdition, selected, evaluation, output, evaluated}
 use Rattle.meaning.specs.Rows.{pathLengthAllowed, opOf, fieldsOf, code, isPath, isStep, isLiteral, isUnknown, isLink, takes, mayMiss, goodLink, goodTest, goodField, goodFields, follow, firstLink, secondLink, links, linkedBelow, linksAgain, misplaced, brokenRow}
 use Rattle.meaning.specs.Rows as R
 use Rattle.meaning.specs.Tree.{none, node, indexOrAxis, testAt, linked, tree, depth}
@@ -87,9 +87,9 @@ or-self-is-union ancestors t x y = refl
 abbrev pub axisPath : ℕ → List ℕ
 axisPath axis = line 24 0 0 axis 0 (line 22 1 0 0 0 [])
 
--- what evaluation of that path from x writes to the output: its front, as long as the place says
-abbrev pub answered : List ℕ → ℕ → ℕ → List ℕ → List ℕ
-answered t axis x out = take (evaluation t (axisPath axis) [] x (length out) .place) (evaluated t (axisPath axis) [] x out)
+-- what evaluation of that path from x in an edition writes to the output: its front, as long as the place says
+abbrev pub answered : ℕ → List ℕ → ℕ → ℕ → List ℕ → List ℕ
+answered edition t axis x out = take (evaluation edition t (axisPath axis) [] x (length out) .place) (evaluated edition t (axisPath axis) [] x out)
 
 axis-path-good : (axis : ℕ) → axis ≤ lastAxis → pathAnswer (axisPath axis) [] ≡ answer 0 2
 unfolding pathAnswer pathChecks some upTo pathLengthAllowed opOf fieldsOf code isPath isStep isUnknown isLink takes mayMiss goodLink goodTest goodField goodFields follow firstLink secondLink links linkedBelow linksAgain misplaced brokenRow linked tree depth
@@ -99,28 +99,28 @@ axis-path-tree : (axis : ℕ) → pathTree (axisPath axis) ≡ node R.relative (
 unfolding tree opOf linked fieldsOf isLink isLiteral isStep code follow firstLink secondLink indexOrAxis testAt
 axis-path-tree axis = refl
 
-module _ (t : List ℕ) (axis x : ℕ) (below : x < rows t) where
+module _ (edition : ℕ) (t : List ℕ) (axis x : ℕ) (below : x < rows t) where
   -- it selects the nodes that have a place on the axis
-  axis-path-selects : selected t (axisPath axis) [] x ≡ keep (placed t (axisOf axis) x) (upTo (rows t))
+  axis-path-selects : selected edition t (axisPath axis) [] x ≡ keep (placed t (axisOf axis) x) (upTo (rows t))
   unfolding select walk startOf isAbsolute code counting testOf passes ok
   axis-path-selects =
       rw (axis-path-tree axis)
-      (free-walk t [] R.step none none axis 0 (keep (eqb x) (upTo (rows t))) refl
+      (free-walk edition t [] R.step none none axis 0 (keep (eqb x) (upTo (rows t))) refl
       ∙ keep-upTo _ _ (rows t) (λ y l. some-one (λ z. placed t (axisOf axis) z y && true) (rows t) x below ∙ and-true (placed t (axisOf axis) x y)))
 
-  module _ (h : axis ≤ lastAxis) (acc : accepted t ≡ true) (out : List ℕ) (room : rows t ≤ length out) where
+  module _ (known : isEdition edition ≡ true) (h : axis ≤ lastAxis) (acc : accepted t ≡ true) (out : List ℕ) (room : rows t ≤ length out) where
     -- where there is room for every node it is answered 0, with their count, and the nodes are written
-    pub axis-path-answered : evaluation t (axisPath axis) [] x (length out) ≡ answer 0 (length (selected t (axisPath axis) [] x))
+    pub axis-path-answered : evaluation edition t (axisPath axis) [] x (length out) ≡ answer 0 (length (selected edition t (axisPath axis) [] x))
     axis-path-answered =
-        evaluation-exactly t (axisPath axis) [] x (length out) _ .1
-        (selects acc (path-accepted (axisPath axis) [] (ap (λ (a : Answer). a .number) (axis-path-good axis h))) below
+        evaluation-exactly edition t (axisPath axis) [] x (length out) _ .1
+        (selects known acc (path-accepted (axisPath axis) [] (ap (λ (a : Answer). a .number) (axis-path-good axis h))) below
         (rw axis-path-selects (omega (arith, keep-shorter (placed t (axisOf axis) x) (upTo (rows t)), length-upTo (rows t)))))
 
-    answered-nodes : answered t axis x out ≡ selected t (axisPath axis) [] x
+    answered-nodes : answered edition t axis x out ≡ selected edition t (axisPath axis) [] x
     unfolding evaluated output
-    answered-nodes = rw axis-path-answered (take-append-seam (selected t (axisPath axis) [] x) _)
+    answered-nodes = rw axis-path-answered (take-append-seam (selected edition t (axisPath axis) [] x) _)
 
-    answered-has : (y : ℕ) → y < rows t → has (answered t axis x out) y ≡ on t (axisOf axis) x y
+    answered-has : (y : ℕ) → y < rows t → has (answered edition t axis x out) y ≡ on t (axisOf axis) x y
     answered-has y l =
         rw (answered-nodes, axis-path-selects)
         (has-keep (placed t (axisOf axis) x) (upTo (rows t)) y
@@ -128,9 +128,9 @@ module _ (t : List ℕ) (axis x : ℕ) (below : x < rows t) where
 
 -- the five answers from x, each 0 where there is room for every node (`axis-path-answered`), together list every node once: it is in
 -- exactly one of them if it is no attribute, and each of them ascends (`evaluate-ascending`)
-pub five-answers : (t : List ℕ) → accepted t ≡ true → (x : ℕ) → x < rows t → (out : List ℕ) → rows t ≤ length out
-    → (y : ℕ) → Plain t y → length (keep (λ axis. has (answered t axis x out) y) fiveParts) ≡ 1
+pub five-answers : (edition : ℕ) → isEdition edition ≡ true → (t : List ℕ) → accepted t ≡ true → (x : ℕ) → x < rows t → (out : List ℕ) → rows t ≤ length out
+    → (y : ℕ) → Plain t y → length (keep (λ axis. has (answered edition t axis x out) y) fiveParts) ≡ 1
 unfolding keep
-five-answers t acc x h out room y l =
-    let lies : (axis : ℕ) → axis ≤ lastAxis → has (answered t axis x out) y ≡ on t (axisOf axis) x y = λ axis k. answered-has t axis x h k acc out room y (l .0) in
+five-answers edition known t acc x h out room y l =
+    let lies : (axis : ℕ) → axis ≤ lastAxis → has (answered edition t axis x out) y ≡ on t (axisOf axis) x y = λ axis k. answered-has edition t axis x h known k acc out room y (l .0) in
     rw (lies 0 (omega arith), lies 4 (omega arith), lies 3 (omega arith), lies 8 (omega arith), lies 7 (omega arith)) (five-parts t x y (l .1))

@@ -67,29 +67,30 @@ module _ (t : List ℕ) (a : Axis) (x : ℕ) where
       place-kept r (on t a x) o (order-monotone r n) 1 i within (rw own-row e) in
       rw (← is-n, ← is-r, ← own-row) (omega (arith, counted, tallied))
 
-  -- ---- candidates
+-- ---- candidates, in an edition
 
+module _ (edition : ℕ) (t : List ℕ) (a : Axis) (x : ℕ) where
   -- a candidate has a place on the axis and passes the test
-  pub candidate-is : (u : Test) (y : ℕ) → has (candidates t a u x) y ≡ (placed t a x y && passes t (principal a) u y)
+  pub candidate-is : (u : Test) (y : ℕ) → has (candidates edition t a u x) y ≡ (placed t a x y && passes edition t (principal a) u y)
   unfolding candidates
-  candidate-is u y = rw (placed-has y) (has-keep (passes t (principal a) u) (axisNodes t a x) y)
+  candidate-is u y = rw (placed-has t a x y) (has-keep (passes edition t (principal a) u) (axisNodes t a x) y)
 
   -- candidates are strictly monotone along the axis
-  pub candidates-monotone : (u : Test) → Monotone (isReverse a) (candidates t a u x)
+  pub candidates-monotone : (u : Test) → Monotone (isReverse a) (candidates edition t a u x)
   unfolding candidates
-  candidates-monotone u = keep-monotone (isReverse a) (passes t (principal a) u) (axisNodes t a x) axis-monotone
+  candidates-monotone u = keep-monotone (isReverse a) (passes edition t (principal a) u) (axisNodes t a x) (axis-monotone t a x)
 
   -- with test node() they are the nodes of the axis
-  pub any-candidates : candidates t a A.any-node x ≡ axisNodes t a x
+  pub any-candidates : candidates edition t a A.any-node x ≡ axisNodes t a x
   unfolding candidates passes
   any-candidates = keep-all (axisNodes t a x)
 
   -- and what the first predicate of a step sees as a node's position is its place
   pub position-is-place : (literals : List Float) (op : Op) (b : Tree) (c d : ℕ)
-      → filtered t literals (node op none b c d) (candidates t a A.any-node x)
-      ≡ keep (λ y. holds (value t literals b (record { node = y; position = float (place t a x y); size = float (length (axisNodes t a x)) })) (float (place t a x y))) (axisNodes t a x)
+      → filtered edition t literals (node op none b c d) (candidates edition t a A.any-node x)
+      ≡ keep (λ y. holds (value edition t literals b (record { node = y; position = float (place t a x y); size = float (length (axisNodes t a x)) })) (float (place t a x y))) (axisNodes t a x)
   unfolding filtered place
-  position-is-place literals op b c d = rw any-candidates (keepAt-places (isReverse a) _ (axisNodes t a x) axis-monotone 1)
+  position-is-place literals op b c d = rw any-candidates (keepAt-places (isReverse a) _ (axisNodes t a x) (axis-monotone t a x) 1)
 
 -- where a place may be asked both are rows, and the rows are not too many
 pub asked-rows : (t : List ℕ) (n x y : ℕ) → askable t n x y ≡ true → (rows t ≤ mostRows) × (x < rows t) × (y < rows t)

@@ -17,19 +17,19 @@ kept-rows-rise : (p : ℕ → Bool) (n : ℕ) → Rising (keep p (upTo n))
 unfolding ordered
 kept-rows-rise p n = keep-monotone false p (upTo n) (order-monotone false n)
 
-module _ (t : List ℕ) (literals : List Float) where
-  walk-rises : (s : Tree) (set : List ℕ) → Rising set → Rising (walk t literals s set)
+module _ (edition : ℕ) (t : List ℕ) (literals : List Float) where
+  walk-rises : (s : Tree) (set : List ℕ) → Rising set → Rising (walk edition t literals s set)
   unfolding walk union
   walk-rises none set up = up
   walk-rises (node op a b c d) set up = kept-rows-rise _ _
 
-  select-rises : (s : Tree) (x : ℕ) → Rising (select t literals s x)
+  select-rises : (s : Tree) (x : ℕ) → Rising (select edition t literals s x)
   unfolding select startOf Monotone
   select-rises none x = λ i j h k. absurd (omega arith)
   select-rises (node op a b c d) x = walk-rises a (startOf t op x) (kept-rows-rise _ _)
 
   -- what is selected is strictly ascending, on every table and for every path
-  pub evaluate-ascending : (p : List ℕ) (start i j : ℕ) → i < j → j < length (selected t p literals start)
-      → getD (selected t p literals start) i 0 < getD (selected t p literals start) j 0
+  pub evaluate-ascending : (p : List ℕ) (start i j : ℕ) → i < j → j < length (selected edition t p literals start)
+      → getD (selected edition t p literals start) i 0 < getD (selected edition t p literals start) j 0
   unfolding Monotone Before
   evaluate-ascending p start = select-rises (pathTree p) start

@@ -73,10 +73,10 @@ usual-back (node op a b c d) done k = usual-back a (node R.step done (predicates
 abbrev start : List ℕ → ℕ → List ℕ
 start t x = keep (eqb x) (upTo (rows t))
 
-module _ (t : List ℕ) (literals : List Float) where
+module _ (edition : ℕ) (t : List ℕ) (literals : List Float) where
   -- does a node pass the test, `*` and names for elements, and the predicates of a chain's last step?
   abbrev fit : Tree → ℕ → Bool
-  fit s = fits t literals 1 (testOf (test s)) (predicates s)
+  fit s = fits edition t literals 1 (testOf (test s)) (predicates s)
 
   -- y is reached from x, the last step's test and predicates left out
   unfoldable Bare : Tree → ℕ → ℕ → Type 0
@@ -89,22 +89,22 @@ module _ (t : List ℕ) (literals : List Float) where
 
   -- the last step of a chain that does not count, on a usual axis
   last-step : (op : Op) (a b : Tree) (c d : ℕ) → counts (node op a b c d) ≡ false → ofAttributes (node op a b c d) ≡ false → (set : List ℕ)
-      → walk t literals (node op a b c d) set ≡ keep (λ y. some (λ x. placed t (axisOf c) x y && fits t literals 1 (testOf d) b y) (walk t literals a set)) (upTo (rows t))
+      → walk edition t literals (node op a b c d) set ≡ keep (λ y. some (λ x. placed t (axisOf c) x y && fits edition t literals 1 (testOf d) b y) (walk edition t literals a set)) (upTo (rows t))
   unfolding someStep
   last-step op a b c d h u set =
-      free-walk t literals op a b c d set (or-none-r (counts a) (counting b) h)
-      ∙ ap (λ (k : ℕ). keep (λ y. some (λ x. placed t (axisOf c) x y && fits t literals k (testOf d) b y) (walk t literals a set)) (upTo (rows t))) (usual-step b c (or-none-r (ofAttributes a) (isOfAttributes b c) u))
+      free-walk edition t literals op a b c d set (or-none-r (counts a) (counting b) h)
+      ∙ ap (λ (k : ℕ). keep (λ y. some (λ x. placed t (axisOf c) x y && fits edition t literals k (testOf d) b y) (walk edition t literals a set)) (upTo (rows t))) (usual-step b c (or-none-r (ofAttributes a) (isOfAttributes b c) u))
 
   -- what is selected from a node that is no attribute is reached by a chain, and the other way
-  walk-to : accepted t ≡ true → (s : Tree) → counts s ≡ false → ofAttributes s ≡ false → (x y : ℕ) → Plain t x → T (has (walk t literals s (start t x)) y) → Chain s x y
+  walk-to : accepted t ≡ true → (s : Tree) → counts s ≡ false → ofAttributes s ≡ false → (x y : ℕ) → Plain t x → T (has (walk edition t literals s (start t x)) y) → Chain s x y
   unfolding walk Bare test predicates someStep ok passes testOf
   walk-to acc none h u x y p k =
       let r : T (eqb x y) × T (has (upTo (rows t)) y) = has-keep-to (eqb x) (upTo (rows t)) y k in
       let e : x ≡ y = eqb→eq x y (r .0) in
       (e, tt, rw (← e) p)
   walk-to acc (node op a b c d) h u x y p k =
-      let before : List ℕ = walk t literals a (start t x) in
-      let reached : ℕ → ℕ → Bool = λ v z. placed t (axisOf c) z v && fits t literals 1 (testOf d) b v in
+      let before : List ℕ = walk edition t literals a (start t x) in
+      let reached : ℕ → ℕ → Bool = λ v z. placed t (axisOf c) z v && fits edition t literals 1 (testOf d) b v in
       let r : T (some (reached y) before) × T (has (upTo (rows t)) y) =
       has-keep-to (λ v. some (reached v) before) (upTo (rows t)) y (rw (last-step op a b c d h u (start t x)) at k) in
       let q : (z : ℕ) × T (reached y z) × T (has before z) = some-to (reached y) before (r .0) in
@@ -121,12 +121,12 @@ module _ (t : List ℕ) (literals : List Float) where
         ),
       )
 
-  walk-from : (s : Tree) → counts s ≡ false → ofAttributes s ≡ false → (x y : ℕ) → Chain s x y → T (has (walk t literals s (start t x)) y)
+  walk-from : (s : Tree) → counts s ≡ false → ofAttributes s ≡ false → (x y : ℕ) → Chain s x y → T (has (walk edition t literals s (start t x)) y)
   unfolding walk Bare test predicates someStep
   walk-from none h u x y k = has-keep-from (eqb x) (upTo (rows t)) y (eq→eqb x y (k .0)) (has-upTo-from (rows t) y (k .2 .0))
   walk-from (node op a b c d) h u x y k =
-      let before : List ℕ = walk t literals a (start t x) in
-      let reached : ℕ → ℕ → Bool = λ v z. placed t (axisOf c) z v && fits t literals 1 (testOf d) b v in
+      let before : List ℕ = walk edition t literals a (start t x) in
+      let reached : ℕ → ℕ → Bool = λ v z. placed t (axisOf c) z v && fits edition t literals 1 (testOf d) b v in
       let m : Bare (node op a b c d) x y = k .0 in
       let i : T (has before (m .0)) = walk-from a (or-none-l (counts a) (counting b) h) (or-none-l (ofAttributes a) (isOfAttributes b c) u) x (m .0) (m .1, m .2, m .3) in
       let r : T (reached y (m .0)) = and-i (placed t (axisOf c) (m .0) y) (fit (node op a b c d) y) (m .4) (k .1) in
@@ -156,34 +156,34 @@ module _ (t : List ℕ) (literals : List Float) where
 abbrev first : Tree → Tree
 first s = node R.step none (predicates s) 0 (test s)
 
-module _ (t : List ℕ) (literals : List Float) (s : Tree) (u : ofAttributes s ≡ false) where
-  turned-to : (x y : ℕ) → Chain t literals s x y → Chain t literals (back s (first s)) y x
+module _ (edition : ℕ) (t : List ℕ) (literals : List Float) (s : Tree) (u : ofAttributes s ≡ false) where
+  turned-to : (x y : ℕ) → Chain edition t literals s x y → Chain edition t literals (back s (first s)) y x
   unfolding Bare axisOf on passes testOf test predicates ok
-  turned-to x y k = turn-from t literals s (first s) u y x y ((y, refl, tt, k .2, subst T (sym (placed-on t A.self y y (k .2 .0))) (eqb-refl y)), k .1, k .2) (k .0)
+  turned-to x y k = turn-from edition t literals s (first s) u y x y ((y, refl, tt, k .2, subst T (sym (placed-on t A.self y y (k .2 .0))) (eqb-refl y)), k .1, k .2) (k .0)
 
-  turned-from : (x y : ℕ) → Chain t literals (back s (first s)) y x → Chain t literals s x y
+  turned-from : (x y : ℕ) → Chain edition t literals (back s (first s)) y x → Chain edition t literals s x y
   unfolding Bare axisOf on test predicates
   turned-from x y k =
-      let r : (z : ℕ) × Chain t literals (first s) y z × Bare t literals s x z = turn-to t literals s (first s) u y x k in
-      let m : Bare t literals (first s) y (r .0) = r .1 .0 in
-      subst (Chain t literals s x) (sym (m .1 ∙ eqb→eq (m .0) (r .0) (subst T (placed-on t A.self (m .0) (r .0) (r .1 .2 .0)) (m .4)))) (r .2, r .1 .1, r .1 .2)
+      let r : (z : ℕ) × Chain edition t literals (first s) y z × Bare edition t literals s x z = turn-to edition t literals s (first s) u y x k in
+      let m : Bare edition t literals (first s) y (r .0) = r .1 .0 in
+      subst (Chain edition t literals s x) (sym (m .1 ∙ eqb→eq (m .0) (r .0) (subst T (placed-on t A.self (m .0) (r .0) (r .1 .2 .0)) (m .4)))) (r .2, r .1 .1, r .1 .2)
 
 -- a relative path walks from the given node
-select-relative : (t : List ℕ) (literals : List Float) (op : Op) (s b : Tree) (c d x : ℕ) → isAbsolute op ≡ false → select t literals (node op s b c d) x ≡ walk t literals s (start t x)
+select-relative : (edition : ℕ) (t : List ℕ) (literals : List Float) (op : Op) (s b : Tree) (c d x : ℕ) → isAbsolute op ≡ false → select edition t literals (node op s b c d) x ≡ walk edition t literals s (start t x)
 unfolding select startOf
-select-relative t literals op s b c d x relative = rw relative
+select-relative edition t literals op s b c d x relative = rw relative
 
 -- for nodes that are no attributes of an accepted table, a turned path whose steps do not count and are not on the attribute axis selects x
 -- from y exactly when the path selects y from x
-pub turned-selects-back : (t : List ℕ) (literals : List Float) (op : Op) (s b : Tree) (c d : ℕ) → isAbsolute op ≡ false → counts s ≡ false → ofAttributes s ≡ false
-    → accepted t ≡ true → (x y : ℕ) → Plain t x → Plain t y → has (select t literals (node op s b c d) x) y ≡ has (select t literals (turned (node op s b c d)) y) x
+pub turned-selects-back : (edition : ℕ) (t : List ℕ) (literals : List Float) (op : Op) (s b : Tree) (c d : ℕ) → isAbsolute op ≡ false → counts s ≡ false → ofAttributes s ≡ false
+    → accepted t ≡ true → (x y : ℕ) → Plain t x → Plain t y → has (select edition t literals (node op s b c d) x) y ≡ has (select edition t literals (turned (node op s b c d)) y) x
 unfolding turned someStep
-turned-selects-back t literals op s b c d relative free usual acc x y h k =
+turned-selects-back edition t literals op s b c d relative free usual acc x y h k =
     let steps-back : Tree = back s (first s) in
     let free-back : counts steps-back ≡ false = counts-back s (first s) free (counting-last s free) in
     let usual-steps : ofAttributes steps-back ≡ false = usual-back s (first s) refl in
-    ap (λ (l : List ℕ). has l y) (select-relative t literals op s b c d x relative)
-    ∙ same (has (walk t literals s (start t x)) y) (has (walk t literals steps-back (start t y)) x)
-    (λ m. walk-from t literals steps-back free-back usual-steps y x (turned-to t literals s usual x y (walk-to t literals acc s free usual x y h m)))
-    (λ m. walk-from t literals s free usual x y (turned-from t literals s usual x y (walk-to t literals acc steps-back free-back usual-steps y x k m)))
-    ∙ sym (ap (λ (l : List ℕ). has l x) (select-relative t literals op steps-back none 0 0 y relative))
+    ap (λ (l : List ℕ). has l y) (select-relative edition t literals op s b c d x relative)
+    ∙ same (has (walk edition t literals s (start t x)) y) (has (walk edition t literals steps-back (start t y)) x)
+    (λ m. walk-from edition t literals steps-back free-back usual-steps y x (turned-to edition t literals s usual x y (walk-to edition t literals acc s free usual x y h m)))
+    (λ m. walk-from edition t literals s free usual x y (turned-from edition t literals s usual x y (walk-to edition t literals acc steps-back free-back usual-steps y x k m)))
+    ∙ sym (ap (λ (l : List ℕ). has l x) (select-relative edition t literals op steps-back none 0 0 y relative))

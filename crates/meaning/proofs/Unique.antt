@@ -40,9 +40,9 @@ axis-place-unique t axis x y = unique (axisPlace t axis x y)
 pub check-path-unique : (p : List ℕ) (literals : List Float) → Unique (ChecksPath p literals)
 check-path-unique p literals = unique (pathAnswer p literals)
 
-pub evaluate-unique : (t p : List ℕ) (literals : List Float) (start : ℕ) (out : List ℕ)
-    → Unique (λ (x : Answer × List ℕ). EvaluatesPath t p literals start out (x .0) (x .1))
-evaluate-unique t p literals start out = unique-pair (evaluation t p literals start (length out)) (evaluated t p literals start out)
+pub evaluate-unique : (edition : ℕ) (t p : List ℕ) (literals : List Float) (start : ℕ) (out : List ℕ)
+    → Unique (λ (x : Answer × List ℕ). EvaluatesPath edition t p literals start out (x .0) (x .1))
+evaluate-unique edition t p literals start out = unique-pair (evaluation edition t p literals start (length out)) (evaluated edition t p literals start out)
 
 pub turn-unique : (p : List ℕ) (literals : List Float) (out : List ℕ) → Unique (λ (x : Answer × List ℕ). TurnsPath p literals out (x .0) (x .1))
 turn-unique p literals out = unique-pair (turning p literals (length out)) (turnedOutput p literals out)
@@ -71,9 +71,9 @@ bt-check-table-unique t = unique-parts (ChecksTable t) (λ x. answer (x .0) (x .
 pub bt-check-path-unique : (p : List ℕ) (literals : List Float) → Unique (λ (x : ℕ × ℕ). ChecksPath p literals (answer (x .0) (x .1)))
 bt-check-path-unique p literals = unique-parts (ChecksPath p literals) (λ x. answer (x .0) (x .1)) (λ a. (a .number, a .place)) (λ x. refl) (check-path-unique p literals)
 
-pub bt-evaluate-unique : (t p : List ℕ) (literals : List Float) (start : ℕ) (out : List ℕ)
-    → Unique (λ (x : ℕ × ℕ × List ℕ). EvaluatesPath t p literals start out (answer (x .0) (x .1)) (x .2))
-bt-evaluate-unique t p literals start out = unique-parts _ (λ x. (answer (x .0) (x .1), x .2)) (λ r. (r .0 .number, r .0 .place, r .1)) (λ x. refl) (evaluate-unique t p literals start out)
+pub bt-evaluate-unique : (edition : ℕ) (t p : List ℕ) (literals : List Float) (start : ℕ) (out : List ℕ)
+    → Unique (λ (x : ℕ × ℕ × List ℕ). EvaluatesPath edition t p literals start out (answer (x .0) (x .1)) (x .2))
+bt-evaluate-unique edition t p literals start out = unique-parts _ (λ x. (answer (x .0) (x .1), x .2)) (λ r. (r .0 .number, r .0 .place, r .1)) (λ x. refl) (evaluate-unique edition t p literals start out)
 
 pub bt-turn-unique : (p : List ℕ) (literals : List Float) (out : List ℕ) → Unique (λ (x : ℕ × ℕ × List ℕ). TurnsPath p literals out (answer (x .0) (x .1)) (x .2))
 bt-turn-unique p literals out = unique-parts _ (λ x. (answer (x .0) (x .1), x .2)) (λ r. (r .0 .number, r .0 .place, r .1)) (λ x. refl) (turn-unique p literals out)

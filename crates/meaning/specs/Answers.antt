@@ -1,6 +1,6 @@
--- Numbers given back (document 01; 13 of document 02, W-209), and a node's place on an axis (document 02, W-203): the answer of each public
--- function and what its output slice holds, from its inputs.
--- Checks run in the order of the numbers, 13 between 9 and 10; the first that applies is given, and no other.
+-- Numbers given back (document 01; 13 and 14 of document 02, W-209 and W-210), and a node's place on an axis (document 02, W-203): the
+-- answer of each public function and what its output slice holds, from its inputs.
+-- Checks run in the order of the numbers, 14 before all others and 13 between 9 and 10; the first that applies is given, and no other.
 -- Assumes nothing: these are definitions.
 use Prim.Native.Nat.{ℕ, _+_, _*_}
 use mathlib.Core.Bool.{Bool, false, _&&_, _||_, not, cond}
@@ -60,28 +60,33 @@ axisPlace t axis x y = cond (askable t axis x y) (place t (axisOf axis) x y) 0
 unfoldable pub pathAnswer : List ℕ → List Float → Answer
 pathAnswer p literals = pathChecks p literals (answer 0 (rowsOf p))
 
--- the nodes that a path of rows selects from a node
-abbrev pub selected : List ℕ → List ℕ → List Float → ℕ → List ℕ
-selected t p literals start = select t literals (pathTree p) start
+-- the nodes that a path of rows selects from a node, in an edition
+abbrev pub selected : ℕ → List ℕ → List ℕ → List Float → ℕ → List ℕ
+selected edition t p literals start = select edition t literals (pathTree p) start
+
+-- the editions of a rule sheet are 1 and 2
+unfoldable pub isEdition : ℕ → Bool
+isEdition edition = eqb edition 1 || eqb edition 2
 
 -- 8: more selected than the output holds; 0: all of it is written
 abbrev pub handed : List ℕ → ℕ → Answer
 handed nodes room = check (ltb room (length nodes)) 8 (length nodes) (answer 0 (length nodes))
 
--- evaluation. 7: start node not below the row count; then 8 or 0
-unfoldable pub evaluation : List ℕ → List ℕ → List Float → ℕ → ℕ → Answer
-evaluation t p literals start room =
-    tableChecks t
+-- evaluation. 14: no edition; then the table and the path; 7: start node not below the row count; then 8 or 0
+unfoldable pub evaluation : ℕ → List ℕ → List ℕ → List Float → ℕ → ℕ → Answer
+evaluation edition t p literals start room =
+    check (not (isEdition edition)) 14 edition
+    (tableChecks t
     (pathChecks p literals
     (check (leb (rows t) start) 7 start
-    (handed (selected t p literals start) room)))
+    (handed (selected edition t p literals start) room))))
 
 -- on 0 what was written stands at the front and the rest is unchanged; every other number leaves the output unchanged
 unfoldable pub output : Answer → List ℕ → List ℕ → List ℕ
 output a front out = cond (eqb (a .number) 0) (front ++ drop (length front) out) out
 
-unfoldable pub evaluated : List ℕ → List ℕ → List Float → ℕ → List ℕ → List ℕ
-evaluated t p literals start out = output (evaluation t p literals start (length out)) (selected t p literals start) out
+unfoldable pub evaluated : ℕ → List ℕ → List ℕ → List Float → ℕ → List ℕ → List ℕ
+evaluated edition t p literals start out = output (evaluation edition t p literals start (length out)) (selected edition t p literals start) out
 
 -- the number of the first top-level step that counts, and of the first on the attribute axis, 0 where none is; and is the top path absolute?
 unfoldable pub countingStep : Tree → ℕ

@@ -1,5 +1,5 @@
 -- The twelve axes, an axis's nodes and their places, the tests and an axis's candidates (document 01, "The path form" and "Meaning";
--- document 02, W-203 and W-209).
+-- document 02, W-203, W-209 and W-210).
 -- Assumes nothing: these are definitions.
 use Prim.Native.Nat.{ℕ, _-_}
 use mathlib.Core.Bool.{Bool, true, false, _&&_, _||_, not, cond}
@@ -105,15 +105,15 @@ pub data Test : Type 0 where
 unfoldable pub testOf : ℕ → Test
 testOf n = cond (leb n 4) (getD (any-node ∷ star ∷ text ∷ comment ∷ instruction ∷ []) n any-node) (named (n - 16))
 
--- does node y pass the test, where `*` and names match the kind k?
-unfoldable pub passes : List ℕ → ℕ → Test → ℕ → Bool
-passes t k any-node y = true
-passes t k star y = eqb (kind t y) k
-passes t k text y = isText t y
-passes t k comment y = eqb (kind t y) 3
-passes t k instruction y = eqb (kind t y) 4
-passes t k (named n) y = eqb (kind t y) k && eqb (name t y) n
+-- does node y pass the test, where names match the kind k? In edition 1 `*` matches any node, in edition 2 the kind k as names do
+unfoldable pub passes : ℕ → List ℕ → ℕ → Test → ℕ → Bool
+passes edition t k any-node y = true
+passes edition t k star y = eqb edition 1 || eqb (kind t y) k
+passes edition t k text y = isText t y
+passes edition t k comment y = eqb (kind t y) 3
+passes edition t k instruction y = eqb (kind t y) 4
+passes edition t k (named n) y = eqb (kind t y) k && eqb (name t y) n
 
 -- the axis nodes of x that pass the test, in axis order
-unfoldable pub candidates : List ℕ → Axis → Test → ℕ → List ℕ
-candidates t axis test x = keep (passes t (principal axis) test) (axisNodes t axis x)
+unfoldable pub candidates : ℕ → List ℕ → Axis → Test → ℕ → List ℕ
+candidates edition t axis test x = keep (passes edition t (principal axis) test) (axisNodes t axis x)

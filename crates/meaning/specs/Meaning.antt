@@ -1,4 +1,5 @@
--- What a path selects (document 01, "Meaning"). Numbers are IEEE 754 doubles by the kit's account, `lib.Ieee`.
+-- What a path selects (document 01, "Meaning") in an edition of the rule sheets (document 02, W-210). Numbers are IEEE 754 doubles by the
+-- kit's account, `lib.Ieee`.
 -- Assumes nothing: these are definitions.
 use Prim.Native.Nat.{ℕ, _+_}
 use mathlib.Core.Bool.{Bool, false, _&&_, _||_, not, cond}
@@ -85,7 +86,7 @@ startOf t op x = keep (eqb (cond (isAbsolute op) 0 x)) (upTo (rows t))
 unfoldable pub union : List ℕ → (ℕ → List ℕ) → List ℕ → List ℕ
 union t step set = keep (λ y. some (λ x. has (step x) y) set) (upTo (rows t))
 
-module _ (t : List ℕ) (literals : List Float) where
+module _ (edition : ℕ) (t : List ℕ) (literals : List Float) where
   unfoldable mutual
     -- the value of an expression in a context
     pub value : Tree → Context → Value
@@ -105,7 +106,7 @@ module _ (t : List ℕ) (literals : List Float) where
     pub walk : Tree → List ℕ → List ℕ
     walk none set = set
     walk (node op a b c d) set =
-        union t (λ x. filtered b (candidates t (axisOf c) (testOf d) x)) (walk a set)
+        union t (λ x. filtered b (candidates edition t (axisOf c) (testOf d) x)) (walk a set)
 
     -- predicates work in turn; after each, positions run from 1 again over those kept and last() is their count
     pub filtered : Tree → List ℕ → List ℕ

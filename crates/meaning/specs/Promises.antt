@@ -25,8 +25,8 @@ abbrev pub ChecksPath : List ℕ → List Float → Answer → Type 0
 ChecksPath p literals r = r ≡ pathAnswer p literals
 
 -- `select::evaluate`: its answer is r, and what was out is out'
-abbrev pub EvaluatesPath : List ℕ → List ℕ → List Float → ℕ → List ℕ → Answer → List ℕ → Type 0
-EvaluatesPath t p literals start out r out' = (r ≡ evaluation t p literals start (length out)) × (out' ≡ evaluated t p literals start out)
+abbrev pub EvaluatesPath : ℕ → List ℕ → List ℕ → List Float → ℕ → List ℕ → Answer → List ℕ → Type 0
+EvaluatesPath edition t p literals start out r out' = (r ≡ evaluation edition t p literals start (length out)) × (out' ≡ evaluated edition t p literals start out)
 
 -- `turn::turn`: its answer is r, and what was out is out'
 abbrev pub TurnsPath : List ℕ → List Float → List ℕ → Answer → List ℕ → Type 0

@@ -61,9 +61,16 @@ ghost use Rattle.cover.specs.Ready.{Ready};
 ghost use Rattle.select.specs.Sets.{Narrowed, Thinned, Led, LedBy};
 
 // The value of the expression that a link names, in a context.
-fn expression(table: &[u32], path: &[u32], literals: &[f64], link: usize, context: Context) -> Value
+fn expression(
+    edition: usize,
+    table: &[u32],
+    path: &[u32],
+    literals: &[f64],
+    link: usize,
+    context: Context,
+) -> Value
     requires { ⌜ Ready (now table) link ⌝ }
-    ensures { λ r. ⌜ r ≡ Meaning.value (now (table .entry)) (now (literals .entry)) (tree (now (path .entry)) link) context ⌝ }
+    ensures { λ r. ⌜ r ≡ Meaning.value edition (now (table .entry)) (now (literals .entry)) (tree (now (path .entry)) link) context ⌝ }
 {
     let none = Value::Truth(false);
     if link == 0 {
@@ -74,20 +81,20 @@ fn expression(table: &[u32], path: &[u32], literals: &[f64], link: usize, contex
     let index = index_or_axis(path, row);
     let first = first_link(path, row);
     if is_over_path(op) {
-        let n = tally(table, path, literals, first, context.node);
+        let n = tally(edition, table, path, literals, first, context.node);
         return apply(literals, op, index, none, none, n, context);
     }
     if takes_second(op) {
         let second = second_link(path, row);
-        let u = expression(table, path, literals, first, context);
+        let u = expression(edition, table, path, literals, first, context);
         if is_decided(op, u) {
             return apply(literals, op, index, u, none, 0, context);
         }
-        let v = expression(table, path, literals, second, context);
+        let v = expression(edition, table, path, literals, second, context);
         return apply(literals, op, index, u, v, 0, context);
     }
     if takes_first(op) {
-        let u = expression(table, path, literals, first, context);
+        let u = expression(edition, table, path, literals, first, context);
         return apply(literals, op, index, u, none, 0, context);
     }
     apply(literals, op, index, none, none, 0, context)
@@ -96,6 +103,7 @@ fn expression(table: &[u32], path: &[u32], literals: &[f64], link: usize, contex
 // Filters the first n nodes of the list, in place, by the chain of predicates that a link names; the first of them works first.
 // Positions run from 1 over what the predicates before it kept, and the size is how many they kept.
 fn keep(
+    edition: usize,
     table: &[u32],
     path: &[u32],
     literals: &[f64],
@@ -104,13 +112,21 @@ fn keep(
     n: usize,
 ) -> usize
     requires { ⌜ Ready (now table) link ⌝ ∗ ⌜ (n ≤ mostRows) × (length (now list) ≡ mostRows) ⌝ }
-    ensures { λ r. ⌜ (take r (now (list .exit)) ≡ Meaning.filtered (now (table .entry)) (now (literals .entry)) (tree (now (path .entry)) link) (take n (now (list .entry)))) × (r ≤ n) ⌝ }
+    ensures { λ r. ⌜ (take r (now (list .exit)) ≡ Meaning.filtered edition (now (table .entry)) (now (literals .entry)) (tree (now (path .entry)) link) (take n (now (list .entry)))) × (r ≤ n) ⌝ }
 {
     if link == 0 {
         return n;
     }
     let row = link - 1;
-    let k = keep(table, path, literals, first_link(path, row), list, n);
+    let k = keep(
+        edition,
+        table,
+        path,
+        literals,
+        first_link(path, row),
+        list,
+        n,
+    );
     let test = second_link(path, row);
     let size = float_of(k);
     let mut m = 0;
@@ -123,7 +139,7 @@ fn keep(
             position,
             size,
         };
-        let v = expression(table, path, literals, test, context);
+        let v = expression(edition, table, path, literals, test, context);
         if keeps(v, position) {
             list[m] = y;
             m += 1;
@@ -135,6 +151,7 @@ fn keep(
 
 // Marks what one step reaches from node x: the candidates that the predicates keep.
 fn spread(
+    edition: usize,
     table: &[u32],
     path: &[u32],
     literals: &[f64],
@@ -146,15 +163,16 @@ fn spread(
     list: &mut [u32],
 )
     requires { ⌜ Ready (now table) link ⌝ ∗ ⌜ x < 4294967296 ⌝ ∗ ⌜ length (now list) ≡ mostRows ⌝ }
-    ensures { λ _. ⌜ ((y : ℕ) → y < length (now (next .entry)) → getD (now (next .exit)) y false ≡ (getD (now (next .entry)) y false || has (stepTo (now (table .entry)) (now (literals .entry)) (now (path .entry)) link axis test x) y)) ⌝ }
+    ensures { λ _. ⌜ ((y : ℕ) → y < length (now (next .entry)) → getD (now (next .exit)) y false ≡ (getD (now (next .entry)) y false || has (stepTo edition (now (table .entry)) (now (literals .entry)) (now (path .entry)) link axis test x) y)) ⌝ }
 {
-    let k = list_candidates(table, axis, test, x, list);
-    let m = keep(table, path, literals, link, list, k);
+    let k = list_candidates(edition, table, axis, test, x, list);
+    let m = keep(edition, table, path, literals, link, list, k);
     add_marks(list, m, next);
 }
 
 // Takes one step from every marked node: then the union of what they reach is marked.
 fn step(
+    edition: usize,
     table: &[u32],
     path: &[u32],
     literals: &[f64],
@@ -164,7 +182,7 @@ fn step(
     marks: &mut [bool],
 )
     requires { ⌜ Ready (now table) link ⌝ ∗ ⌜ length (now marks) ≡ mostRows ⌝ }
-    ensures { λ _. ⌜ listed (now (table .entry)) (now (marks .exit)) ≡ Meaning.union (now (table .entry)) (stepTo (now (table .entry)) (now (literals .entry)) (now (path .entry)) link axis test) (listed (now (table .entry)) (now (marks .entry))) ⌝ }
+    ensures { λ _. ⌜ listed (now (table .entry)) (now (marks .exit)) ≡ Meaning.union (now (table .entry)) (stepTo edition (now (table .entry)) (now (literals .entry)) (now (path .entry)) link axis test) (listed (now (table .entry)) (now (marks .entry))) ⌝ }
 {
     let n = row_count(table);
     let mut next = [false; MOST_ROWS];
@@ -173,6 +191,7 @@ fn step(
     while x < n {
         if marks[x] {
             spread(
+                edition,
                 table,
                 path,
                 literals,
@@ -191,6 +210,7 @@ fn step(
 
 // Decides the truth that a link names for the active rows, one by one.
 fn decide_each(
+    edition: usize,
     table: &[u32],
     path: &[u32],
     literals: &[f64],
@@ -199,7 +219,7 @@ fn decide_each(
     states: &mut [u16],
 )
     requires { ⌜ Ready (now table) link ⌝ ∗ ⌜ (active ≤ 1000) × (length (now states) ≡ mostRows) ⌝ }
-    ensures { λ _. ⌜ Sieved (true-at (now (table .entry)) (now (literals .entry)) (tree (now (path .entry)) link)) active (rows (now (table .entry))) (now (states .entry)) (now (states .exit)) ⌝ }
+    ensures { λ _. ⌜ Sieved (true-at edition (now (table .entry)) (now (literals .entry)) (tree (now (path .entry)) link)) active (rows (now (table .entry))) (now (states .entry)) (now (states .exit)) ⌝ }
 {
     let n = row_count(table);
     let unasked = float_of(0);
@@ -211,7 +231,7 @@ fn decide_each(
                 position: unasked,
                 size: unasked,
             };
-            let v = expression(table, path, literals, link, context);
+            let v = expression(edition, table, path, literals, link, context);
             states[i] = choose(truth_of(v), active, active + 1);
         }
         i += 1;
@@ -220,6 +240,7 @@ fn decide_each(
 
 // Decides an and, or where any an or: the rows that the first operand leaves open are raised by a level for the second.
 fn decide_pair(
+    edition: usize,
     table: &[u32],
     path: &[u32],
     literals: &[f64],
@@ -229,20 +250,21 @@ fn decide_pair(
     states: &mut [u16],
 )
     requires { ⌜ Ready (now table) link ⌝ ∗ ⌜ (0 < link) × (active + 2 * link ≤ 1000) × (length (now states) ≡ mostRows) ⌝ ∗ ⌜ field (now path) (link - 1) 0 ≡ cond any 17 16 ⌝ ∗ ⌜ Bounded (rows (now table)) active (now states) ⌝ }
-    ensures { λ _. ⌜ Sieved (true-at (now (table .entry)) (now (literals .entry)) (tree (now (path .entry)) link)) active (rows (now (table .entry))) (now (states .entry)) (now (states .exit)) ⌝ }
+    ensures { λ _. ⌜ Sieved (true-at edition (now (table .entry)) (now (literals .entry)) (tree (now (path .entry)) link)) active (rows (now (table .entry))) (now (states .entry)) (now (states .exit)) ⌝ }
 {
     let row = link - 1;
     let first = first_link(path, row);
     let second = second_link(path, row);
     let n = row_count(table);
-    decide(table, path, literals, first, active, states);
+    decide(edition, table, path, literals, first, active, states);
     raise(states, n, any, active);
-    decide(table, path, literals, second, active + 2, states);
+    decide(edition, table, path, literals, second, active + 2, states);
     lower(states, n, active);
 }
 
 // Decides a not: the rows where its operand holds and those where it does not are exchanged.
 fn decide_not(
+    edition: usize,
     table: &[u32],
     path: &[u32],
     literals: &[f64],
@@ -251,15 +273,16 @@ fn decide_not(
     states: &mut [u16],
 )
     requires { ⌜ Ready (now table) link ⌝ ∗ ⌜ (0 < link) × (active + 2 * link ≤ 1000) × (length (now states) ≡ mostRows) ⌝ ∗ ⌜ field (now path) (link - 1) 0 ≡ 18 ⌝ ∗ ⌜ Bounded (rows (now table)) active (now states) ⌝ }
-    ensures { λ _. ⌜ Sieved (true-at (now (table .entry)) (now (literals .entry)) (tree (now (path .entry)) link)) active (rows (now (table .entry))) (now (states .entry)) (now (states .exit)) ⌝ }
+    ensures { λ _. ⌜ Sieved (true-at edition (now (table .entry)) (now (literals .entry)) (tree (now (path .entry)) link)) active (rows (now (table .entry))) (now (states .entry)) (now (states .exit)) ⌝ }
 {
     let first = first_link(path, link - 1);
-    decide(table, path, literals, first, active, states);
+    decide(edition, table, path, literals, first, active, states);
     exchange(states, row_count(table), active);
 }
 
 // Takes one step back: from the marked nodes that are near, pass the test and hold to those whose axis they are on.
 fn step_back(
+    edition: usize,
     table: &[u32],
     path: &[u32],
     literals: &[f64],
@@ -270,17 +293,18 @@ fn step_back(
     marks: &mut [bool],
 )
     requires { ⌜ Ready (now table) link ⌝ ∗ ⌜ (length (now near) ≡ mostRows) × (length (now marks) ≡ mostRows) ⌝ }
-    ensures { λ _. ⌜ LedBy (now (table .entry)) (now (literals .entry)) (now (near .entry)) (tree (now (path .entry)) link) axis test (now (marks .entry)) (now (marks .exit)) ⌝ }
+    ensures { λ _. ⌜ LedBy edition (now (table .entry)) (now (literals .entry)) (now (near .entry)) (tree (now (path .entry)) link) axis test (now (marks .entry)) (now (marks .exit)) ⌝ }
 {
     meet(table, near, marks);
-    sift(table, axis, test, marks);
-    narrow(table, path, literals, link, marks);
+    sift(edition, table, axis, test, marks);
+    narrow(edition, table, path, literals, link, marks);
     reach_back(table, axis, marks);
 }
 
 // Takes the chain of steps that a link names backwards, the last of them first: from the marked nodes to those from which it
 // leads to one of them, over nodes that are near alone.
 fn back(
+    edition: usize,
     table: &[u32],
     path: &[u32],
     literals: &[f64],
@@ -289,7 +313,7 @@ fn back(
     marks: &mut [bool],
 )
     requires { ⌜ Ready (now table) link ⌝ ∗ ⌜ (length (now near) ≡ mostRows) × (length (now marks) ≡ mostRows) ⌝ }
-    ensures { λ _. ⌜ Led (now (table .entry)) (now (literals .entry)) (now (near .entry)) (tree (now (path .entry)) link) (now (marks .entry)) (now (marks .exit)) ⌝ }
+    ensures { λ _. ⌜ Led edition (now (table .entry)) (now (literals .entry)) (now (near .entry)) (tree (now (path .entry)) link) (now (marks .entry)) (now (marks .exit)) ⌝ }
 {
     if link == 0 {
         return;
@@ -298,14 +322,25 @@ fn back(
     let tests = second_link(path, row);
     let axis = index_or_axis(path, row);
     let test = test_at(path, row);
-    step_back(table, path, literals, tests, axis, test, near, marks);
+    step_back(
+        edition,
+        table,
+        path,
+        literals,
+        tests,
+        axis,
+        test,
+        near,
+        marks,
+    );
     let before = first_link(path, row);
-    back(table, path, literals, before, near, marks);
+    back(edition, table, path, literals, before, near, marks);
 }
 
 // Decides for the active rows whether the chain of steps that a link names leads from them to any node: backwards from all,
 // or, where its predicates need a look at each node, from those that it may come by.
 fn decide_back(
+    edition: usize,
     table: &[u32],
     path: &[u32],
     literals: &[f64],
@@ -314,21 +349,22 @@ fn decide_back(
     states: &mut [u16],
 )
     requires { ⌜ Ready (now table) link ⌝ ∗ ⌜ (active ≤ 1000) × (length (now states) ≡ mostRows) ⌝ }
-    ensures { λ _. ⌜ Sieved (backs (now (table .entry)) (now (literals .entry)) (tree (now (path .entry)) link) (λ z. true)) active (rows (now (table .entry))) (now (states .entry)) (now (states .exit)) ⌝ }
+    ensures { λ _. ⌜ Sieved (backs edition (now (table .entry)) (now (literals .entry)) (tree (now (path .entry)) link) (λ z. true)) active (rows (now (table .entry))) (now (states .entry)) (now (states .exit)) ⌝ }
 {
     let n = row_count(table);
     let heavy = is_heavy(path, link);
     let mut near = [!heavy; MOST_ROWS];
     if heavy {
-        cover_active(table, path, link, active, states, &mut near);
+        cover_active(edition, table, path, link, active, states, &mut near);
     }
     let mut marks = [true; MOST_ROWS];
-    back(table, path, literals, link, &near, &mut marks);
+    back(edition, table, path, literals, link, &near, &mut marks);
     settle(states, &marks, n, active);
 }
 
 // Decides an existence: of an absolute path once for all rows, of a relative path backwards, or row by row where a step counts.
 fn decide_path(
+    edition: usize,
     table: &[u32],
     path: &[u32],
     literals: &[f64],
@@ -337,31 +373,32 @@ fn decide_path(
     states: &mut [u16],
 )
     requires { ⌜ Ready (now table) link ⌝ ∗ ⌜ (0 < link) × (active ≤ 1000) × (length (now states) ≡ mostRows) ⌝ ∗ ⌜ field (now path) (link - 1) 0 ≡ 20 ⌝ }
-    ensures { λ _. ⌜ Sieved (true-at (now (table .entry)) (now (literals .entry)) (tree (now (path .entry)) link)) active (rows (now (table .entry))) (now (states .entry)) (now (states .exit)) ⌝ }
+    ensures { λ _. ⌜ Sieved (true-at edition (now (table .entry)) (now (literals .entry)) (tree (now (path .entry)) link)) active (rows (now (table .entry))) (now (states .entry)) (now (states .exit)) ⌝ }
 {
     let held = first_link(path, link - 1);
     if held == 0 {
-        decide_each(table, path, literals, link, active, states);
+        decide_each(edition, table, path, literals, link, active, states);
         return;
     }
     let top = held - 1;
     let op = field_at(path, top, 0);
     if op == 23 {
-        let k = tally(table, path, literals, held, 0);
+        let k = tally(edition, table, path, literals, held, 0);
         settle_all(states, row_count(table), active, below(0, k));
         return;
     }
     let steps = first_link(path, top);
     if counts(path, steps) {
-        decide_each(table, path, literals, link, active, states);
+        decide_each(edition, table, path, literals, link, active, states);
         return;
     }
-    decide_back(table, path, literals, steps, active, states);
+    decide_back(edition, table, path, literals, steps, active, states);
 }
 
 // Decides the truth that a link names for the rows whose state is active: it stays where the truth holds, and becomes one
 // more where it does not.
 fn decide(
+    edition: usize,
     table: &[u32],
     path: &[u32],
     literals: &[f64],
@@ -370,43 +407,57 @@ fn decide(
     states: &mut [u16],
 )
     requires { ⌜ Ready (now table) link ⌝ ∗ ⌜ (active + 2 * link ≤ 1000) × (length (now states) ≡ mostRows) ⌝ ∗ ⌜ Bounded (rows (now table)) active (now states) ⌝ }
-    ensures { λ _. ⌜ Sieved (true-at (now (table .entry)) (now (literals .entry)) (tree (now (path .entry)) link)) active (rows (now (table .entry))) (now (states .entry)) (now (states .exit)) ⌝ }
+    ensures { λ _. ⌜ Sieved (true-at edition (now (table .entry)) (now (literals .entry)) (tree (now (path .entry)) link)) active (rows (now (table .entry))) (now (states .entry)) (now (states .exit)) ⌝ }
 {
     if link == 0 {
-        decide_each(table, path, literals, link, active, states);
+        decide_each(edition, table, path, literals, link, active, states);
         return;
     }
     let op = field_at(path, link - 1, 0);
     match op {
-        16 => decide_pair(table, path, literals, link, false, active, states),
-        17 => decide_pair(table, path, literals, link, true, active, states),
-        18 => decide_not(table, path, literals, link, active, states),
-        20 => decide_path(table, path, literals, link, active, states),
-        _ => decide_each(table, path, literals, link, active, states),
+        16 => decide_pair(edition, table, path, literals, link, false, active, states),
+        17 => decide_pair(edition, table, path, literals, link, true, active, states),
+        18 => decide_not(edition, table, path, literals, link, active, states),
+        20 => decide_path(edition, table, path, literals, link, active, states),
+        _ => decide_each(edition, table, path, literals, link, active, states),
     }
 }
 
 // Of the rows that are active at the first level those stay so at which the predicates of the chain that a link names hold,
 // whatever their position: what the predicates before it left out, state 3, is left out of its own truth.
-fn thin(table: &[u32], path: &[u32], literals: &[f64], link: usize, states: &mut [u16])
+fn thin(
+    edition: usize,
+    table: &[u32],
+    path: &[u32],
+    literals: &[f64],
+    link: usize,
+    states: &mut [u16],
+)
     requires { ⌜ Ready (now table) link ⌝ ∗ ⌜ length (now states) ≡ mostRows ⌝ ∗ ⌜ Bounded (rows (now table)) 3 (now states) ⌝ }
-    ensures { λ _. ⌜ Thinned (now (table .entry)) (now (literals .entry)) (tree (now (path .entry)) link) (now (states .entry)) (now (states .exit)) × Bounded (rows (now (table .entry))) 3 (now (states .exit)) ⌝ }
+    ensures { λ _. ⌜ Thinned edition (now (table .entry)) (now (literals .entry)) (tree (now (path .entry)) link) (now (states .entry)) (now (states .exit)) × Bounded (rows (now (table .entry))) 3 (now (states .exit)) ⌝ }
 {
     if link == 0 {
         return;
     }
     let row = link - 1;
     let before = first_link(path, row);
-    thin(table, path, literals, before, states);
+    thin(edition, table, path, literals, before, states);
     let held = second_link(path, row);
     put_out(states, row_count(table));
-    decide(table, path, literals, held, 2, states);
+    decide(edition, table, path, literals, held, 2, states);
 }
 
 // Of the marked nodes those stay marked at which the predicates of the chain that a link names hold, whatever their position.
-fn narrow(table: &[u32], path: &[u32], literals: &[f64], link: usize, marks: &mut [bool])
+fn narrow(
+    edition: usize,
+    table: &[u32],
+    path: &[u32],
+    literals: &[f64],
+    link: usize,
+    marks: &mut [bool],
+)
     requires { ⌜ Ready (now table) link ⌝ ∗ ⌜ length (now marks) ≡ mostRows ⌝ }
-    ensures { λ _. ⌜ Narrowed (now (table .entry)) (now (literals .entry)) (tree (now (path .entry)) link) (now (marks .entry)) (now (marks .exit)) ⌝ }
+    ensures { λ _. ⌜ Narrowed edition (now (table .entry)) (now (literals .entry)) (tree (now (path .entry)) link) (now (marks .entry)) (now (marks .exit)) ⌝ }
 {
     if link == 0 {
         return;
@@ -414,12 +465,13 @@ fn narrow(table: &[u32], path: &[u32], literals: &[f64], link: usize, marks: &mu
     let n = row_count(table);
     let mut states = [2u16; MOST_ROWS];
     settle(&mut states, marks, n, 2);
-    thin(table, path, literals, link, &mut states);
+    thin(edition, table, path, literals, link, &mut states);
     retain(&states, 2, marks, n);
 }
 
 // Takes one step that does not count from all marked nodes at once.
 fn stride(
+    edition: usize,
     table: &[u32],
     path: &[u32],
     literals: &[f64],
@@ -429,36 +481,44 @@ fn stride(
     marks: &mut [bool],
 )
     requires { ⌜ Ready (now table) link ⌝ ∗ ⌜ length (now marks) ≡ mostRows ⌝ ∗ ⌜ turning.counting (tree (now path) link) ≡ false ⌝ }
-    ensures { λ _. ⌜ listed (now (table .entry)) (now (marks .exit)) ≡ Meaning.union (now (table .entry)) (stepTo (now (table .entry)) (now (literals .entry)) (now (path .entry)) link axis test) (listed (now (table .entry)) (now (marks .entry))) ⌝ }
+    ensures { λ _. ⌜ listed (now (table .entry)) (now (marks .exit)) ≡ Meaning.union (now (table .entry)) (stepTo edition (now (table .entry)) (now (literals .entry)) (now (path .entry)) link axis test) (listed (now (table .entry)) (now (marks .entry))) ⌝ }
 {
     reach(table, axis, marks);
-    sift(table, axis, test, marks);
-    narrow(table, path, literals, link, marks);
+    sift(edition, table, axis, test, marks);
+    narrow(edition, table, path, literals, link, marks);
 }
 
 // Takes the chain of steps that a link names from the marked nodes, the first of them first, and marks what it reaches.
-fn walk(table: &[u32], path: &[u32], literals: &[f64], link: usize, marks: &mut [bool])
+fn walk(
+    edition: usize,
+    table: &[u32],
+    path: &[u32],
+    literals: &[f64],
+    link: usize,
+    marks: &mut [bool],
+)
     requires { ⌜ Ready (now table) link ⌝ ∗ ⌜ length (now marks) ≡ mostRows ⌝ }
-    ensures { λ _. ⌜ listed (now (table .entry)) (now (marks .exit)) ≡ Meaning.walk (now (table .entry)) (now (literals .entry)) (tree (now (path .entry)) link) (listed (now (table .entry)) (now (marks .entry))) ⌝ }
+    ensures { λ _. ⌜ listed (now (table .entry)) (now (marks .exit)) ≡ Meaning.walk edition (now (table .entry)) (now (literals .entry)) (tree (now (path .entry)) link) (listed (now (table .entry)) (now (marks .entry))) ⌝ }
 {
     if link == 0 {
         return;
     }
     let last = link - 1;
     let before = first_link(path, last);
-    walk(table, path, literals, before, marks);
+    walk(edition, table, path, literals, before, marks);
     let tests = second_link(path, last);
     let axis = index_or_axis(path, last);
     let test = test_at(path, last);
     if counting(path, tests) {
-        step(table, path, literals, tests, axis, test, marks);
+        step(edition, table, path, literals, tests, axis, test, marks);
         return;
     }
-    stride(table, path, literals, tests, axis, test, marks);
+    stride(edition, table, path, literals, tests, axis, test, marks);
 }
 
 // Marks what the path that a link names selects from a node, where nothing is marked yet.
 pub fn select(
+    edition: usize,
     table: &[u32],
     path: &[u32],
     literals: &[f64],
@@ -467,7 +527,7 @@ pub fn select(
     marks: &mut [bool],
 )
     requires { ⌜ Ready (now table) link ⌝ ∗ ⌜ length (now marks) ≡ mostRows ⌝ ∗ ⌜ ((y : ℕ) → getD (now marks) y false ≡ false) ⌝ }
-    ensures { λ _. ⌜ listed (now (table .entry)) (now (marks .exit)) ≡ Meaning.select (now (table .entry)) (now (literals .entry)) (tree (now (path .entry)) link) start ⌝ }
+    ensures { λ _. ⌜ listed (now (table .entry)) (now (marks .exit)) ≡ Meaning.select edition (now (table .entry)) (now (literals .entry)) (tree (now (path .entry)) link) start ⌝ }
 {
     if link == 0 {
         return;
@@ -475,15 +535,22 @@ pub fn select(
     let top = link - 1;
     start_mark(table, field_at(path, top, 0), start, marks);
     let steps = first_link(path, top);
-    walk(table, path, literals, steps, marks);
+    walk(edition, table, path, literals, steps, marks);
 }
 
 // How many nodes the path that a link names selects from a node.
-fn tally(table: &[u32], path: &[u32], literals: &[f64], link: usize, start: usize) -> usize
+fn tally(
+    edition: usize,
+    table: &[u32],
+    path: &[u32],
+    literals: &[f64],
+    link: usize,
+    start: usize,
+) -> usize
     requires { ⌜ Ready (now table) link ⌝ }
-    ensures { λ r. ⌜ (r ≡ length (Meaning.select (now (table .entry)) (now (literals .entry)) (tree (now (path .entry)) link) start)) × (r ≤ mostRows) ⌝ }
+    ensures { λ r. ⌜ (r ≡ length (Meaning.select edition (now (table .entry)) (now (literals .entry)) (tree (now (path .entry)) link) start)) × (r ≤ mostRows) ⌝ }
 {
     let mut marks = [false; MOST_ROWS];
-    select(table, path, literals, link, start, &mut marks);
+    select(edition, table, path, literals, link, start, &mut marks);
     count_marks(table, &marks)
 }

@@ -17,7 +17,7 @@ use Rattle.candidates.proofs.list_by_scan.Tie as tie
 
 abbrev Inv-loop : tie.InvT-loop
 Inv-loop table axis test x list₀ n reverse kind m₀ i₀ list m i =
-    (i ≤ n) × (m ≤ i) × (n ≡ rows table) × (length list ≡ length list₀) × Chosen (λ y. on table (axisOf axis) x y && passes table (principal (axisOf axis)) (testOf test) y) (ordered reverse n) list m i
+    (i ≤ n) × (m ≤ i) × (n ≡ rows table) × (length list ≡ length list₀) × Chosen (λ y. on table (axisOf axis) x y && passes 2 table (principal (axisOf axis)) (testOf test) y) (ordered reverse n) list m i
 
 abbrev μ-loop : tie.MeasureT-loop
 μ-loop table axis test x list₀ n reverse kind m₀ i₀ list m i = n - i

@@ -16,7 +16,7 @@ use Rattle.candidates.proofs.list_range.Tie as tie
 
 abbrev Inv-loop : tie.InvT-loop
 Inv-loop table x test from to list₀ m₀ y₀ list m y =
-    (from ≤ y) × (y - from ≤ to - from) × (m ≤ y - from) × (length list ≡ length list₀) × Ranged (λ y. ownOrPlain table x y && passes table 1 (testOf test) y) (rows table) from to list m y
+    (from ≤ y) × (y - from ≤ to - from) × (m ≤ y - from) × (length list ≡ length list₀) × Ranged (λ y. ownOrPlain table x y && passes 2 table 1 (testOf test) y) (rows table) from to list m y
 
 abbrev μ-loop : tie.MeasureT-loop
 μ-loop table x test from to list₀ m₀ y₀ list m y = to - y

@@ -20,7 +20,7 @@ use Rattle.cover.proofs.+cover.{statement}
 use Rattle.cover.proofs.+cover.Tie.{close}
 
 abbrev μ-cover : Measures 4 cover-kinds.ps ℕ
-μ-cover κs a = a .1 .1 .0
+μ-cover κs a = a .1 .1 .1 .0
 
 abbrev cover-at : ℕ → In 4 cover-kinds.ps
 cover-at t = and 4 cover-kinds.ps (is 4 cover-kinds.ps μ-cover t) cover.Pre
@@ -47,7 +47,7 @@ calls t = (
 )
 
 cover-returns : (t : ℕ) → cover-lts.Need-returns (calls t) (cover-at t) cover.Post
-cover-returns t c = covered-none _ _ _ _ _ (c .if1 .taken)
+cover-returns t c = covered-none _ _ _ _ _ _ (c .if1 .taken)
 
 cover-sub-row : (t : ℕ) → cover-lts.Need-sub-row (calls t) (cover-at t) cover.Post
 cover-sub-row t c = search needs
@@ -77,7 +77,12 @@ cover-sift-requires : (t : ℕ) → cover-lts.Need-sift-requires (calls t) (cove
 cover-sift-requires t c κs = search needs
 
 cover-join-requires : (t : ℕ) → cover-lts.Need-join-requires (calls t) (cover-at t) cover.Post
-cover-join-requires t c κs = search needs
+cover-join-requires t c κs =
+    let sift = c .before .before .before .before in
+    let reach = sift .before .before .before .before .before in
+    let cover = reach .before .before .before .before .before .before .before in
+    let start = cover .before .before .before .before .before .before .before .before .before in
+    (omega (arith, start .pre, cover .cover .kept, reach .reach .kept, sift .sift .kept), omega (arith, start .pre, cover .cover .kept))
 
 cover-same-length : (t : ℕ) → cover-lts.Need-same-length (calls t) (cover-at t) cover.Post
 cover-same-length t c = search needs
@@ -95,7 +100,7 @@ cover-returns-2 t c =
     let cover = index-or-axis .before .before .before .before .before in
     let first-link = cover .before .before .before in
     let else1 = first-link .before in
-    covered-row _ _ _ (else1 .if1 .left) _ _ _ (first-link .first-link .ensures .0) (index-or-axis .index-or-axis .ensures .0) (test-at .test-at .ensures .0) _ _ _ _ _ _ _ (cover .cover .ensures) (reach .reach .ensures) (sift .sift .ensures) (join .join .ensures)
+    covered-row _ _ _ _ (else1 .if1 .left) _ _ _ (first-link .first-link .ensures .0) (index-or-axis .index-or-axis .ensures .0) (test-at .test-at .ensures .0) _ _ _ _ _ _ _ (cover .cover .ensures) (reach .reach .ensures) (sift .sift .ensures) (join .join .ensures)
 
 pub +cover-spec : {M : Type 1} → statement M
 +cover-spec = close μ-cover λ t. cover-lts.spec (calls t)

@@ -33,7 +33,7 @@ returns c =
     let retain = cover .before .before .before .before in
     let row-count = retain .before in
     let start = row-count .before .before .before .before .before .before in
-    covers-active _ _ _ _ _ _ _ _ _ _ (row-count .row-count .ensures) (λ y l. getD-replicate mostRows y true false (omega (arith, l, start .pre .0 .small))) (retain .retain .ensures) (cover .cover .ensures)
+    covers-active _ _ _ _ _ _ _ _ _ _ _ (row-count .row-count .ensures) (λ y l. getD-replicate mostRows y true false (omega (arith, l, start .pre .0 .small))) (retain .retain .ensures) (cover .cover .ensures)
 
 pub cover-active-spec : {M : Type 1} → statement M
 cover-active-spec =

@@ -9,20 +9,24 @@ use native.Mathlib.Omega.{arith}
 use borrow.Author.Needs.{needs}
 use Rattle.meaning.specs.Table.{rows}
 use Rattle.meaning.specs.Axis.{axisOf, principal, passes, testOf}
+use Rattle.meaning.proofs.Editions.{second-passes}
 use Rattle.meaning.proofs.Marks.{Wrote, wrote-start, wrote-ahead, wrote-more, wrote-all}
 use Rattle.marks.specs.Sets.{Sifted}
 use Rattle.marks.proofs.sift.Statement.{statement}
 use Rattle.marks.proofs.sift.Tie as tie
 
 abbrev Inv-loop : tie.InvT-loop
-Inv-loop table axis test marks₀ kind n i₀ marks i = (i ≤ n) × (n ≡ rows table) × (length marks ≡ length marks₀) × Wrote (λ y. getD marks₀ y false && passes table (principal (axisOf axis)) (testOf test) y) marks₀ marks i
+Inv-loop edition table axis test marks₀ read kind n i₀ marks i = (i ≤ n) × (n ≡ rows table) × (length marks ≡ length marks₀) × Wrote (λ y. getD marks₀ y false && passes 2 table (principal (axisOf axis)) (testOf read) y) marks₀ marks i
 
 abbrev μ-loop : tie.MeasureT-loop
-μ-loop table axis test marks₀ kind n i₀ marks i = n - i
+μ-loop edition table axis test marks₀ read kind n i₀ marks i = n - i
+
+in-second-requires : tie.Need-in-second-requires Inv-loop μ-loop
+in-second-requires c κs = search needs
 
 returns : tie.Need-returns Inv-loop μ-loop
 unfolding Sifted passes testOf
-returns c y l = rw (c .if1 .taken) (sym (and-true (getD (c .before .before .before .args .marks .now) y false)))
+returns c y l = rw (second-passes, ← c .before .in-second .ensures, c .if1 .taken) (sym (and-true (getD (c .before .before .before .before .args .marks .now) y false)))
 
 principal-requires : tie.Need-principal-requires Inv-loop μ-loop
 principal-requires c κs = search needs
@@ -62,7 +66,7 @@ same-length c = search needs
 
 returns-2 : tie.Need-returns-2 Inv-loop μ-loop
 unfolding Sifted
-returns-2 c = wrote-all _ _ _ _ _ (c .before .loop .inv .3) (omega arith)
+returns-2 c y l = rw (second-passes, ← c .before .before .before .before .before .in-second .ensures) (wrote-all _ _ _ _ _ (c .before .loop .inv .3) (omega arith) y l)
 
 pub sift-spec : {M : Type 1} → statement M
 sift-spec =
@@ -70,6 +74,7 @@ sift-spec =
     (tie.spec
     Inv-loop
     μ-loop
+    in-second-requires
     returns
     principal-requires
     row-count-requires

@@ -12,6 +12,9 @@ number-at-requires c κs = search needs
 number-at-requires-2 : tie.Need-number-at-requires-2
 number-at-requires-2 c κs = search needs
 
+number-at-requires-3 : tie.Need-number-at-requires-3
+number-at-requires-3 c κs = search needs
+
 count-of-requires : tie.Need-count-of-requires
 count-of-requires c κs = search needs
 
@@ -23,6 +26,9 @@ slice-aggregate-out c = simp length-take (omega arith)
 
 small-requires : tie.Need-small-requires
 small-requires c κs = search needs
+
+small-requires-2 : tie.Need-small-requires-2
+small-requires-2 c κs = search needs
 
 evaluate-requires : tie.Need-evaluate-requires
 evaluate-requires c κs = search needs
@@ -45,10 +51,12 @@ answer-evaluate-spec =
     (tie.spec
     number-at-requires
     number-at-requires-2
+    number-at-requires-3
     count-of-requires
     array-borrow-prefix-space
     slice-aggregate-out
     small-requires
+    small-requires-2
     evaluate-requires
     widened-requires
     cast-write-answer

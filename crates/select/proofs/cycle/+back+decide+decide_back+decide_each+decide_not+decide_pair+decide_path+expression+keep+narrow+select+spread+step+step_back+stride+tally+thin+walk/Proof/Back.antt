@@ -11,7 +11,7 @@ use Rattle.select.proofs.cycle.+back+decide+decide_back+decide_each+dec
 
 module _ (t : ℕ) where
   pub returns : lts.Need-returns (calls t) (given t) reads.Post
-  returns c = led-none _ _ _ _ _ _ (c .if1 .taken)
+  returns c = led-none _ _ _ _ _ _ _ (c .if1 .taken)
 
   pub sub-row : lts.Need-sub-row (calls t) (given t) reads.Post
   sub-row c = search needs
@@ -55,4 +55,4 @@ module _ (t : ℕ) where
       let index-or-axis = test-at .before in
       let second-link = index-or-axis .before in
       let else1 = second-link .before in
-      led-row _ _ _ _ (else1 .if1 .left) _ _ (first-link .first-link .ensures .0) (second-link .second-link .ensures .0) _ _ _ _ _ _ (index-or-axis .index-or-axis .ensures .0) (test-at .test-at .ensures .0) (step-back .step-back .ensures) (back .back .ensures)
+      led-row _ _ _ _ _ (else1 .if1 .left) _ _ (first-link .first-link .ensures .0) (second-link .second-link .ensures .0) _ _ _ _ _ _ (index-or-axis .index-or-axis .ensures .0) (test-at .test-at .ensures .0) (step-back .step-back .ensures) (back .back .ensures)

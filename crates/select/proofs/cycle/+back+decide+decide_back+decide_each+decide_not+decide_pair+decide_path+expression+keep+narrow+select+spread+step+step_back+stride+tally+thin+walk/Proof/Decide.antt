@@ -58,7 +58,9 @@ module _ (t : ℕ) where
       (omega (arith, start .pre, else1 .if1 .left), (lower _ _ _ (start .pre .1 .0) (omega (arith, start .pre, else1 .if1 .left)), ((omega (arith, else1 .if1 .left), omega (arith, start .pre), omega (arith, start .pre)), sym (field-at .field-at .ensures .0) ∙ at-match-keys4 .match .keys4)))
 
   pub decide-each-requires-2 : lts.Need-decide-each-requires-2 (calls t) (given t) reads.Post
-  decide-each-requires-2 c κs = search needs
+  decide-each-requires-2 c κs =
+      let start = c .before .before .before .before .before .before .before .before in
+      (omega (arith, start .pre), (start .pre .1 .0, (omega (arith, start .pre), omega (arith, start .pre))))
 
   pub same-length-2 : lts.Need-same-length-2 (calls t) (given t) reads.Post
   same-length-2 c = search needs

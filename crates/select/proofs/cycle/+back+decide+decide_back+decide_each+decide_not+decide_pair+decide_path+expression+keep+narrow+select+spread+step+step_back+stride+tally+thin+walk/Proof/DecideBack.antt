@@ -28,7 +28,7 @@ module _ (t : ℕ) where
   cover-active-requires c κs = search needs
 
   pub slice-aggregate-back : lts.Need-slice-aggregate-back (calls t) (given t) reads.Post
-  slice-aggregate-back c = sym (⊎-elim (λ w. ap length (w .5) ∙ w .3 .kept .1 .1 .1 .1 .1 .0) (λ w. ap length (w .1)) (c .before .if1 .came))
+  slice-aggregate-back c = sym (⊎-elim (λ w. ap length (w .5) ∙ w .3 .kept .1 .1 .1 .1 .1 .1 .0) (λ w. ap length (w .1)) (c .before .if1 .came))
 
   pub slice-aggregate-back-2 : lts.Need-slice-aggregate-back-2 (calls t) (given t) reads.Post
   slice-aggregate-back-2 c = search needs
@@ -37,7 +37,7 @@ module _ (t : ℕ) where
   back-requires c κs =
       let joined = c .before .before in
       let start = joined .before .before .before .before .before .before .before in
-      let long : length (joined .if1 .near) ≡ mostRows = ⊎-elim (λ w. ap length (w .5) ∙ w .3 .kept .1 .1 .1 .1 .1 .0) (λ w. ap length (w .1)) (joined .if1 .came) in
+      let long : length (joined .if1 .near) ≡ mostRows = ⊎-elim (λ w. ap length (w .5) ∙ w .3 .kept .1 .1 .1 .1 .1 .1 .0) (λ w. ap length (w .1)) (joined .if1 .came) in
       (omega (arith, start .pre), (start .pre .1 .0, (long, search needs)))
 
   pub slice-aggregate-settle : lts.Need-slice-aggregate-settle (calls t) (given t) reads.Post
@@ -58,6 +58,6 @@ module _ (t : ℕ) where
       let start = row-count .before .before .before .before .before in
       let full : (y : ℕ) → y < rows (start .args .table .now) → getD (replicate mostRows true) y false ≡ true = λ y l. getD-replicate mostRows y true false (omega (arith, l, start .pre .1 .0 .small)) in
       ⊎-elim
-      (λ w. near-decided _ _ _ _ _ _ _ _ _ _ (row-count .row-count .ensures) full (back .back .ensures) (settle .settle .ensures) (rw (sym (w .5)) at (w .3 .ensures)))
-      (λ w. all-decided _ _ _ _ _ _ _ _ _ _ (row-count .row-count .ensures) full (back .back .ensures) (settle .settle .ensures) (λ y l. ap (λ (n : List Bool). getD n y false) (w .1) ∙ getD-replicate mostRows y _ false (omega (arith, l, start .pre .1 .0 .small)) ∙ ap not (w .0 .left)))
+      (λ w. near-decided _ _ _ _ _ _ _ _ _ _ _ (row-count .row-count .ensures) full (back .back .ensures) (settle .settle .ensures) (rw (sym (w .5)) at (w .3 .ensures)))
+      (λ w. all-decided _ _ _ _ _ _ _ _ _ _ _ (row-count .row-count .ensures) full (back .back .ensures) (settle .settle .ensures) (λ y l. ap (λ (n : List Bool). getD n y false) (w .1) ∙ getD-replicate mostRows y _ false (omega (arith, l, start .pre .1 .0 .small)) ∙ ap not (w .0 .left)))
       (joined .if1 .came)

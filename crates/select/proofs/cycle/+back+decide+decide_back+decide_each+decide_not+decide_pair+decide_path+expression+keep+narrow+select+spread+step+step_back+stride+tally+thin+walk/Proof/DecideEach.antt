@@ -16,11 +16,11 @@ use Rattle.select.proofs.cycle.+back+decide+decide_back+decide_each+dec
 use Rattle.select.proofs.cycle.+back+decide+decide_back+decide_each+decide_not+decide_pair+decide_path+expression+keep+narrow+select+spread+step+step_back+stride+tally+thin+walk.Proof.Shared.{decide-each-at as given, decide-each-calls as calls}
 
 abbrev pub Inv-loop : lts.InvT-loop
-Inv-loop table path literals link active states₀ n unasked i₀ states i =
-    (i ≤ n) × (n ≡ rows table) × (length states ≡ length states₀) × SievedTo (true-at table literals (tree path link)) active i n states₀ states
+Inv-loop edition table path literals link active states₀ n unasked i₀ states i =
+    (i ≤ n) × (n ≡ rows table) × (length states ≡ length states₀) × SievedTo (true-at edition table literals (tree path link)) active i n states₀ states
 
 abbrev pub μ-loop : lts.MeasureT-loop
-μ-loop table path literals link active states₀ n unasked i₀ states i = n - i
+μ-loop edition table path literals link active states₀ n unasked i₀ states i = n - i
 
 module _ (t : ℕ) where
   pub row-count-requires : lts.Need-row-count-requires (calls t) (given t) reads.Post Inv-loop μ-loop

@@ -38,4 +38,4 @@ module _ (t : ℕ) where
       let decide = row-count .before .before .before .before in
       let first-link = decide .before .before in
       let start = first-link .before .before .before .before .before in
-      not-decided _ _ _ _ (λ e. omega (arith, start .pre)) _ (first-link .first-link .ensures .0) _ _ _ _ (row-count .row-count .ensures) (start .pre .1 .1 .1 .1) (decide .decide .ensures) _ (start .pre .1 .1 .1 .0) (exchange .exchange .ensures)
+      not-decided _ _ _ _ _ (λ e. omega (arith, start .pre)) _ (first-link .first-link .ensures .0) _ _ _ _ (row-count .row-count .ensures) (start .pre .1 .1 .1 .1) (decide .decide .ensures) _ (start .pre .1 .1 .1 .0) (exchange .exchange .ensures)

@@ -48,7 +48,7 @@ module _ (t : ℕ) where
       let second-link = row-count .before in
       let first-link = second-link .before in
       let start = first-link .before .before .before .before .before in
-      (omega (arith, start .pre, second-link .second-link .ensures), (lower _ _ _ (start .pre .1 .0) (omega (arith, start .pre, second-link .second-link .ensures)), ((omega (arith, start .pre, second-link .second-link .ensures), omega (arith, start .pre, decide .decide .kept, raise .raise .kept)), raised-low _ _ _ _ (λ e. omega (arith, start .pre)) _ (first-link .first-link .ensures .0) _ _ _ _ (row-count .row-count .ensures) (start .pre .1 .1 .1 .1) (decide .decide .ensures) (start .args .any) (start .pre .1 .1 .1 .0) _ (raise .raise .ensures))))
+      (omega (arith, start .pre, second-link .second-link .ensures), (lower _ _ _ (start .pre .1 .0) (omega (arith, start .pre, second-link .second-link .ensures)), ((omega (arith, start .pre, second-link .second-link .ensures), omega (arith, start .pre, decide .decide .kept, raise .raise .kept)), raised-low _ _ _ _ _ (λ e. omega (arith, start .pre)) _ (first-link .first-link .ensures .0) _ _ _ _ (row-count .row-count .ensures) (start .pre .1 .1 .1 .1) (decide .decide .ensures) (start .args .any) (start .pre .1 .1 .1 .0) _ (raise .raise .ensures))))
 
   pub lower-requires : lts.Need-lower-requires (calls t) (given t) reads.Post
   lower-requires c κs =
@@ -72,4 +72,4 @@ module _ (t : ℕ) where
       let second-link = row-count .before in
       let first-link = second-link .before in
       let start = first-link .before .before .before .before .before in
-      pair-decided _ _ _ _ (λ e. omega (arith, start .pre)) _ (first-link .first-link .ensures .0) _ _ _ _ (row-count .row-count .ensures) (start .pre .1 .1 .1 .1) (decide .decide .ensures) (start .args .any) (start .pre .1 .1 .1 .0) _ (raise .raise .ensures) _ (second-link .second-link .ensures .0) _ _ (decide2 .decide2 .ensures) (lower .lower .ensures)
+      pair-decided _ _ _ _ _ (λ e. omega (arith, start .pre)) _ (first-link .first-link .ensures .0) _ _ _ _ (row-count .row-count .ensures) (start .pre .1 .1 .1 .1) (decide .decide .ensures) (start .args .any) (start .pre .1 .1 .1 .0) _ (raise .raise .ensures) _ (second-link .second-link .ensures .0) _ _ (decide2 .decide2 .ensures) (lower .lower .ensures)

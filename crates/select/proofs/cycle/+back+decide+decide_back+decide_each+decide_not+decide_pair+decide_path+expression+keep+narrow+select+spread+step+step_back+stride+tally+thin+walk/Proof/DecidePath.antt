@@ -57,7 +57,7 @@ module _ (t : ℕ) where
       let else1 = field-at .before in
       let first-link = else1 .before in
       let start = first-link .before .before .before .before .before in
-      absolute-decided _ _ _ _ (λ e. omega (arith, start .pre)) (start .pre .1 .1 .1) _ (first-link .first-link .ensures .0) (else1 .if1 .left) _ (field-at .field-at .ensures .0) _ _ _ (then2 .if2 .taken) _ _ _ (tally .tally .ensures .0) (below .below .ensures) (row-count .row-count .ensures) (settle-all .settle-all .ensures)
+      absolute-decided _ _ _ _ _ (λ e. omega (arith, start .pre)) (start .pre .1 .1 .1) _ (first-link .first-link .ensures .0) (else1 .if1 .left) _ (field-at .field-at .ensures .0) _ _ _ (then2 .if2 .taken) _ _ _ (tally .tally .ensures .0) (below .below .ensures) (row-count .row-count .ensures) (settle-all .settle-all .ensures)
 
   pub first-link-requires-2 : lts.Need-first-link-requires-2 (calls t) (given t) reads.Post
   first-link-requires-2 c κs = search needs
@@ -96,4 +96,4 @@ module _ (t : ℕ) where
       let else1 = field-at .before in
       let first-link = else1 .before in
       let start = first-link .before .before .before .before .before in
-      relative-decided _ _ _ _ (λ e. omega (arith, start .pre)) (start .pre .1 .1 .1) _ (first-link .first-link .ensures .0) (else1 .if1 .left) _ (field-at .field-at .ensures .0) _ _ _ (else2 .if2 .left) _ (first-link2 .first-link2 .ensures .0) _ (counts .counts .ensures) (else3 .if3 .left) (decide-back .decide-back .ensures)
+      relative-decided _ _ _ _ _ (λ e. omega (arith, start .pre)) (start .pre .1 .1 .1) _ (first-link .first-link .ensures .0) (else1 .if1 .left) _ (field-at .field-at .ensures .0) _ _ _ (else2 .if2 .left) _ (first-link2 .first-link2 .ensures .0) _ (counts .counts .ensures) (else3 .if3 .left) (decide-back .decide-back .ensures)

@@ -17,11 +17,11 @@ use Rattle.select.proofs.cycle.+back+decide+decide_back+decide_each+dec
 use Rattle.select.proofs.cycle.+back+decide+decide_back+decide_each+decide_not+decide_pair+decide_path+expression+keep+narrow+select+spread+step+step_back+stride+tally+thin+walk.Proof.Shared.{keep-at as given, keep-calls as calls}
 
 abbrev pub Inv-loop : lts.InvT-loop
-Inv-loop table path literals link list₀ n row k test size m₀ i₀ list m i =
-    (m ≤ i) × (i ≤ k) × (length list ≡ mostRows) × Kept (keptBy table literals path test k) k list₀ list m i
+Inv-loop edition table path literals link list₀ n row k test size m₀ i₀ list m i =
+    (m ≤ i) × (i ≤ k) × (length list ≡ mostRows) × Kept (keptBy edition table literals path test k) k list₀ list m i
 
 abbrev pub μ-loop : lts.MeasureT-loop
-μ-loop table path literals link list₀ n row k test size m₀ i₀ list m i = k - i
+μ-loop edition table path literals link list₀ n row k test size m₀ i₀ list m i = k - i
 
 module _ (t : ℕ) where
   pub returns : lts.Need-returns (calls t) (given t) reads.Post Inv-loop μ-loop
@@ -105,14 +105,14 @@ module _ (t : ℕ) where
         omega arith,
         ap length (w .1) ∙ simp length-set (lo .loop .inv .2),
         rw (w .1, w .2) (kept-more _ _ _ _ _ _ (lo .loop .inv .3) (lo .loop .inv .0) more fit
-            (kept-by _ _ _ _ _ _ _ _ _ _ _ _ _ (wi .wide .ensures .0) (f2 .float-of2 .ensures .0) (fl .float-of .ensures .0) (ev .expression .ensures) (c .before .keeps .ensures) (w .0 .taken))),
+            (kept-by _ _ _ _ _ _ _ _ _ _ _ _ _ _ (wi .wide .ensures .0) (f2 .float-of2 .ensures .0) (fl .float-of .ensures .0) (ev .expression .ensures) (c .before .keeps .ensures) (w .0 .taken))),
       ))
       (λ w. (
         omega (arith, lo .loop .inv),
         omega arith,
         ap length (w .1) ∙ lo .loop .inv .2,
         rw (w .1, w .2) (kept-skip _ _ _ _ _ _ (lo .loop .inv .3) more fit
-            (kept-by _ _ _ _ _ _ _ _ _ _ _ _ _ (wi .wide .ensures .0) (f2 .float-of2 .ensures .0) (fl .float-of .ensures .0) (ev .expression .ensures) (c .before .keeps .ensures) (w .0 .left))),
+            (kept-by _ _ _ _ _ _ _ _ _ _ _ _ _ _ (wi .wide .ensures .0) (f2 .float-of2 .ensures .0) (fl .float-of .ensures .0) (ev .expression .ensures) (c .before .keeps .ensures) (w .0 .left))),
       ))
       (c .if2 .came)
 
@@ -125,7 +125,7 @@ module _ (t : ℕ) where
       let sl = lo .before .before in
       let ke = sl .before .before .before in
       let la = ke .before .before in (
-        filtered-row _ _ _ _ (la .before .if1 .left) _ _ _ _ _ _ (la .first-link .ensures .0) (sl .second-link .ensures .0) (ke .keep .ensures .0)
+        filtered-row _ _ _ _ _ (la .before .if1 .left) _ _ _ _ _ _ (la .first-link .ensures .0) (sl .second-link .ensures .0) (ke .keep .ensures .0)
             (length-take-le _ _ (omega (arith, ke .keep .kept, ke .keep .ensures .1, ke .before .before .before .before .before .before .before .before .pre)))
             (kept-done _ _ _ _ _ _ (lo .loop .inv .3) (omega arith)),
         omega arith,

@@ -13,7 +13,7 @@ use Rattle.select.proofs.cycle.+back+decide+decide_back+decide_each+dec
 
 module _ (t : ℕ) where
   pub returns : lts.Need-returns (calls t) (given t) reads.Post
-  returns c = narrowed-none _ _ _ _ _ (c .if1 .taken)
+  returns c = narrowed-none _ _ _ _ _ _ (c .if1 .taken)
 
   pub row-count-requires : lts.Need-row-count-requires (calls t) (given t) reads.Post
   row-count-requires c κs = search needs
@@ -50,4 +50,4 @@ module _ (t : ℕ) where
       let settle = thin .before .before .before in
       let row-count = settle .before .before .before in
       let start = row-count .before .before .before .before .before .before in
-      narrowed-by _ _ _ _ _ _ _ _ _ (row-count .row-count .ensures) (λ y k. getD-replicate mostRows y 2 0 (omega (arith, row-count .row-count .ensures, start .pre .1 .0 .small))) (settle .settle .ensures) (thin .thin .ensures .0) (retain .retain .ensures)
+      narrowed-by _ _ _ _ _ _ _ _ _ _ (row-count .row-count .ensures) (λ y k. getD-replicate mostRows y 2 0 (omega (arith, row-count .row-count .ensures, start .pre .1 .0 .small))) (settle .settle .ensures) (thin .thin .ensures .0) (retain .retain .ensures)

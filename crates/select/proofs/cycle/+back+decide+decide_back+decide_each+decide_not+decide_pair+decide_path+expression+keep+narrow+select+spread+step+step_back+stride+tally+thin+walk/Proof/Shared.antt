@@ -97,58 +97,58 @@ use Rattle.sieve.proofs.settle_all.Reads as settle-all-reads
 use Rattle.table.proofs.row_count.Reads as row-count-reads
 
 abbrev pub μ-back : Measures 5 back-kinds.ps ℕ
-μ-back κs a = 4 * a .1 .1 .1 .0
+μ-back κs a = 4 * a .1 .1 .1 .1 .0
 
 abbrev pub μ-decide : Measures 4 decide-kinds.ps ℕ
-μ-decide κs a = 4 * a .1 .1 .1 .0 + 3
+μ-decide κs a = 4 * a .1 .1 .1 .1 .0 + 3
 
 abbrev pub μ-decide-back : Measures 4 decide-back-kinds.ps ℕ
-μ-decide-back κs a = 4 * a .1 .1 .1 .0 + 1
+μ-decide-back κs a = 4 * a .1 .1 .1 .1 .0 + 1
 
 abbrev pub μ-decide-each : Measures 4 decide-each-kinds.ps ℕ
-μ-decide-each κs a = 4 * a .1 .1 .1 .0 + 1
+μ-decide-each κs a = 4 * a .1 .1 .1 .1 .0 + 1
 
 abbrev pub μ-decide-not : Measures 4 decide-not-kinds.ps ℕ
-μ-decide-not κs a = 4 * a .1 .1 .1 .0
+μ-decide-not κs a = 4 * a .1 .1 .1 .1 .0
 
 abbrev pub μ-decide-pair : Measures 4 decide-pair-kinds.ps ℕ
-μ-decide-pair κs a = 4 * a .1 .1 .1 .0
+μ-decide-pair κs a = 4 * a .1 .1 .1 .1 .0
 
 abbrev pub μ-decide-path : Measures 4 decide-path-kinds.ps ℕ
-μ-decide-path κs a = 4 * a .1 .1 .1 .0 + 2
+μ-decide-path κs a = 4 * a .1 .1 .1 .1 .0 + 2
 
 abbrev pub μ-expression : Measures 3 expression-kinds.ps ℕ
-μ-expression κs a = 4 * a .1 .1 .1 .0
+μ-expression κs a = 4 * a .1 .1 .1 .1 .0
 
 abbrev pub μ-keep : Measures 4 keep-kinds.ps ℕ
-μ-keep κs a = 4 * a .1 .1 .1 .0
+μ-keep κs a = 4 * a .1 .1 .1 .1 .0
 
 abbrev pub μ-narrow : Measures 4 narrow-kinds.ps ℕ
-μ-narrow κs a = 4 * a .1 .1 .1 .0 + 1
+μ-narrow κs a = 4 * a .1 .1 .1 .1 .0 + 1
 
 abbrev pub μ-select : Measures 4 select-kinds.ps ℕ
-μ-select κs a = 4 * a .1 .1 .1 .0
+μ-select κs a = 4 * a .1 .1 .1 .1 .0
 
 abbrev pub μ-spread : Measures 5 spread-kinds.ps ℕ
-μ-spread κs a = 4 * a .1 .1 .1 .0 + 1
+μ-spread κs a = 4 * a .1 .1 .1 .1 .0 + 1
 
 abbrev pub μ-step : Measures 4 step-kinds.ps ℕ
-μ-step κs a = 4 * a .1 .1 .1 .0 + 2
+μ-step κs a = 4 * a .1 .1 .1 .1 .0 + 2
 
 abbrev pub μ-step-back : Measures 5 step-back-kinds.ps ℕ
-μ-step-back κs a = 4 * a .1 .1 .1 .0 + 2
+μ-step-back κs a = 4 * a .1 .1 .1 .1 .0 + 2
 
 abbrev pub μ-stride : Measures 4 stride-kinds.ps ℕ
-μ-stride κs a = 4 * a .1 .1 .1 .0 + 2
+μ-stride κs a = 4 * a .1 .1 .1 .1 .0 + 2
 
 abbrev pub μ-tally : Measures 3 tally-kinds.ps ℕ
-μ-tally κs a = 4 * a .1 .1 .1 .0 + 1
+μ-tally κs a = 4 * a .1 .1 .1 .1 .0 + 1
 
 abbrev pub μ-thin : Measures 4 thin-kinds.ps ℕ
-μ-thin κs a = 4 * a .1 .1 .1 .0
+μ-thin κs a = 4 * a .1 .1 .1 .1 .0
 
 abbrev pub μ-walk : Measures 4 walk-kinds.ps ℕ
-μ-walk κs a = 4 * a .1 .1 .1 .0
+μ-walk κs a = 4 * a .1 .1 .1 .1 .0
 
 abbrev pub back-at : ℕ → In 5 back-kinds.ps
 back-at t = and 5 back-kinds.ps (is 5 back-kinds.ps μ-back t) back.Pre

@@ -17,17 +17,17 @@ use Rattle.select.proofs.cycle.+back+decide+decide_back+decide_each+dec
 use Rattle.select.proofs.cycle.+back+decide+decide_back+decide_each+decide_not+decide_pair+decide_path+expression+keep+narrow+select+spread+step+step_back+stride+tally+thin+walk.Proof.Shared.{step-at as given, step-calls as calls}
 
 abbrev pub Inv-loop : lts.InvT-loop
-Inv-loop table path literals link axis test marks n next₀ list₀ x₀ next list x =
+Inv-loop edition table path literals link axis test marks n next₀ list₀ x₀ next list x =
     (x ≤ n)
     × (n ≡ rows table)
     × (rows table ≤ mostRows)
     × (length marks ≡ mostRows)
     × (length next ≡ mostRows)
     × (length list ≡ mostRows)
-    × Reached (stepTo table literals path link axis test) marks x next
+    × Reached (stepTo edition table literals path link axis test) marks x next
 
 abbrev pub μ-loop : lts.MeasureT-loop
-μ-loop table path literals link axis test marks n next₀ list₀ x₀ next list x = n - x
+μ-loop edition table path literals link axis test marks n next₀ list₀ x₀ next list x = n - x
 
 module _ (t : ℕ) where
   pub row-count-requires : lts.Need-row-count-requires (calls t) (given t) reads.Post Inv-loop μ-loop
@@ -71,9 +71,9 @@ module _ (t : ℕ) where
         inv .1,
         inv .2,
         inv .3,
-        ap length (w .6) ∙ w .3 .kept .1 .1 .1 .1 .1 .1 .1 .0 ∙ inv .4,
-        ap length (w .7) ∙ w .3 .kept .1 .1 .1 .1 .1 .1 .1 .1 .0 ∙ inv .5,
-        rw (w .6) (reached-more _ _ _ _ _ (w .0 .taken) (inv .6) (w .3 .kept .1 .1 .1 .1 .1 .1 .1 .0) (w .3 .ensures)),
+        ap length (w .6) ∙ w .3 .kept .1 .1 .1 .1 .1 .1 .1 .1 .0 ∙ inv .4,
+        ap length (w .7) ∙ w .3 .kept .1 .1 .1 .1 .1 .1 .1 .1 .1 .0 ∙ inv .5,
+        rw (w .6) (reached-more _ _ _ _ _ (w .0 .taken) (inv .6) (w .3 .kept .1 .1 .1 .1 .1 .1 .1 .1 .0) (w .3 .ensures)),
       ))
       (λ w. (
         more,

@@ -40,4 +40,4 @@ module _ (t : ℕ) where
       let narrow = reach-back .before .before .before .before in
       let sift = narrow .before .before .before .before in
       let meet = sift .before .before .before .before in
-      led-by _ _ _ _ _ _ _ _ _ _ _ (meet .meet .ensures) (sift .sift .ensures) (narrow .narrow .ensures) (reach-back .reach-back .ensures)
+      led-by _ _ _ _ _ _ _ _ _ _ _ _ (meet .meet .ensures) (sift .sift .ensures) (narrow .narrow .ensures) (reach-back .reach-back .ensures)

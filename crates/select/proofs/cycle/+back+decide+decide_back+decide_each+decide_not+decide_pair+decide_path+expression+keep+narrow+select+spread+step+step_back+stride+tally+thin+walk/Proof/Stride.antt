@@ -32,4 +32,4 @@ module _ (t : ℕ) where
       let sift = narrow .before .before .before .before in
       let reach = sift .before .before .before .before in
       let start = reach .before .before .before .before .before .before in
-      strode _ _ _ _ _ _ _ _ _ _ (start .pre .1 .1 .1) (reach .reach .ensures) (sift .sift .ensures) (narrow .narrow .ensures)
+      strode _ _ _ _ _ _ _ _ _ _ _ (start .pre .1 .1 .1) (reach .reach .ensures) (sift .sift .ensures) (narrow .narrow .ensures)

@@ -12,7 +12,7 @@ use Rattle.select.proofs.cycle.+back+decide+decide_back+decide_each+dec
 
 module _ (t : ℕ) where
   pub returns : lts.Need-returns (calls t) (given t) reads.Post
-  returns c = (thinned-none _ _ _ _ _ (c .if1 .taken), search needs)
+  returns c = (thinned-none _ _ _ _ _ _ (c .if1 .taken), search needs)
 
   pub sub-row : lts.Need-sub-row (calls t) (given t) reads.Post
   sub-row c = search needs
@@ -59,4 +59,4 @@ module _ (t : ℕ) where
       let first-link = thin .before .before in
       let else1 = first-link .before in
       let start = else1 .before .before .before .before .before in
-      (thinned-row _ _ _ _ (else1 .if1 .left) _ _ (first-link .first-link .ensures .0) (second-link .second-link .ensures .0) _ _ _ _ _ (row-count .row-count .ensures) (thin .thin .ensures .0) (put-out .put-out .ensures) (decide .decide .ensures), sieved-bounded _ _ _ _ _ (decide .decide .ensures) (put-low (start .args .table .now) _ (row-count .row-count .ensures) _ _ (thin .thin .ensures .1) (put-out .put-out .ensures)))
+      (thinned-row _ _ _ _ _ (else1 .if1 .left) _ _ (first-link .first-link .ensures .0) (second-link .second-link .ensures .0) _ _ _ _ _ (row-count .row-count .ensures) (thin .thin .ensures .0) (put-out .put-out .ensures) (decide .decide .ensures), sieved-bounded _ _ _ _ _ (decide .decide .ensures) (put-low (start .args .table .now) _ (row-count .row-count .ensures) _ _ (thin .thin .ensures .1) (put-out .put-out .ensures)))

@@ -63,7 +63,7 @@ module _ (t : ℕ) where
       let walk = second-link .before .before .before in
       let first-link = walk .before .before in
       let else1 = first-link .before in
-      walk-row _ _ _ _ (else1 .if1 .left) _ _ _ _ _ _ _ (first-link .first-link .ensures .0) (second-link .second-link .ensures .0) (index-or-axis .index-or-axis .ensures .0) (test-at .test-at .ensures .0) (walk .walk .ensures) (step .step .ensures)
+      walk-row _ _ _ _ _ (else1 .if1 .left) _ _ _ _ _ _ _ (first-link .first-link .ensures .0) (second-link .second-link .ensures .0) (index-or-axis .index-or-axis .ensures .0) (test-at .test-at .ensures .0) (walk .walk .ensures) (step .step .ensures)
 
   pub stride-requires : lts.Need-stride-requires (calls t) (given t) reads.Post
   stride-requires c κs =
@@ -87,4 +87,4 @@ module _ (t : ℕ) where
       let walk = second-link .before .before .before in
       let first-link = walk .before .before in
       let else1 = first-link .before in
-      walk-row _ _ _ _ (else1 .if1 .left) _ _ _ _ _ _ _ (first-link .first-link .ensures .0) (second-link .second-link .ensures .0) (index-or-axis .index-or-axis .ensures .0) (test-at .test-at .ensures .0) (walk .walk .ensures) (stride .stride .ensures)
+      walk-row _ _ _ _ _ (else1 .if1 .left) _ _ _ _ _ _ _ (first-link .first-link .ensures .0) (second-link .second-link .ensures .0) (index-or-axis .index-or-axis .ensures .0) (test-at .test-at .ensures .0) (walk .walk .ensures) (stride .stride .ensures)
