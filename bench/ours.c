@@ -1,8 +1,8 @@
 /* ours.c: the proved evaluator as an engine of the benchmark.
  *
- * A run is one call of bt_evaluate from the root: it checks the table, the
- * literals and the path each time. Only the change of the text into rows is
- * done before.
+ * A run is one call of bt_evaluate from the root, in edition 2: it checks the
+ * table, the literals and the path each time. Only the change of the text into
+ * rows is done before.
  */
 #include "bargetulip.h"
 #include "engines.h"
@@ -29,7 +29,8 @@ static size_t run_ours(void *opened)
 {
     struct state *s = opened;
     uint32_t place;
-    uint32_t number = bt_evaluate(s->table, 4 * (size_t)s->rows, s->path.path, s->path.path_len,
+    uint32_t number = bt_evaluate(BT_EDITION_2, s->table, 4 * (size_t)s->rows,
+                                  s->path.path, s->path.path_len,
                                   s->path.literals, s->path.literals_len, 0, s->out, 4096, &place);
     if (number != BT_DONE) {
         fprintf(stderr, "bench: refused with %u at %u\n", number, place);

@@ -1,14 +1,15 @@
 /* compare.c: holds the archive to the independent reference on random inputs.
  *
  *   compare SEED COUNT [FIRST]   COUNT random inputs, all eight functions each
- *   compare fixed                the cases of attributes whose answers are known
+ *   compare fixed                the cases whose answers are known
  *   compare stress               the largest inputs, on a stack of 1 MiB
  *
  * Both sides get the same output slice, filled with the same random words and
  * with more such words around it; afterwards the whole must be equal, and on a
  * refusal untouched. Inputs end at a page that cannot be read. A path that the
- * archive turns is run from both ends of a pair of nodes. The first difference
- * is printed with its input and ends the program with status 1.
+ * archive turns is run from both ends of a pair of nodes, in the edition of the
+ * input. The first difference is printed with its input and ends the program
+ * with status 1.
  */
 #include "bargetulip.h"
 #include "compare_files.h"
@@ -21,7 +22,7 @@
 #include <stdlib.h>
 #include <string.h>
 
-enum { OUT_ROOM = 4200, FENCED = 32 * 4096, AXES = 12, FEW_ROWS = 24, NUMBERS = 14, ATTRIBUTE = 5 };
+enum { OUT_ROOM = 4200, FENCED = 32 * 4096, AXES = 12, FEW_ROWS = 24, NUMBERS = 15, ATTRIBUTE = 5, EDITIONS = 3 };
 
 /* more work than this is left out: a few tens of milliseconds */
 static const uint64_t WORK_LIMIT = 6000000;
@@ -37,8 +38,9 @@ static const char *const names[FUNCTIONS] = {
 static uint64_t seen[FUNCTIONS][NUMBERS];
 static uint64_t left_out;
 
-/* for how many pairs of nodes a path and its turned path were run, and how many of the pairs they select */
-static uint64_t pairs, pairs_selected;
+/* by the edition: how many evaluations were done, for how many pairs of nodes a path and its turned path were run,
+ * and how many of the pairs they select */
+static uint64_t done[EDITIONS], pairs[EDITIONS], pairs_selected[EDITIONS];
 
 /* ---- inputs with a fence behind them ---- */
 
@@ -105,7 +107,7 @@ static void ask_reference(enum function f, const struct input *in, size_t room, 
         r->number = ref_check_path(in->path, in->path_len, in->literals, in->literals_len, place);
         break;
     case EVALUATE:
-        r->number = ref_evaluate(in->table, in->table_len, in->path, in->path_len, in->literals,
+        r->number = ref_evaluate(in->edition, in->table, in->table_len, in->path, in->path_len, in->literals,
                                  in->literals_len, in->start, out, room, place, WORK_LIMIT);
         break;
     case TURN:
@@ -127,7 +129,7 @@ static void ask_archive(enum function f, const struct input *in, struct fenced p
         r->number = bt_check_path(p.path, in->path_len, p.literals, in->literals_len, place);
         break;
     case EVALUATE:
-        r->number = bt_evaluate(p.table, in->table_len, p.path, in->path_len, p.literals,
+        r->number = bt_evaluate(in->edition, p.table, in->table_len, p.path, in->path_len, p.literals,
                                 in->literals_len, in->start, out, room, place);
         break;
     case TURN:
@@ -168,7 +170,7 @@ static void report(enum function f, const char *why, const struct input *in, siz
     print_literals(in);
     if (f == VIEW)
         print_rows("list", in->list, in->list_len, 1);
-    printf("start %u, node %u, room %lu\n", in->start, in->node, (unsigned long)room);
+    printf("edition %u, start %u, node %u, room %lu\n", in->edition, in->start, in->node, (unsigned long)room);
     print_result("reference", expected, room);
     print_result("archive", found, room);
 }
@@ -243,6 +245,8 @@ static bool agree(enum function f, struct random *random, const struct input *in
     if (why)
         report(f, why, in, room, &expected, &found);
     seen[f][expected.number]++;
+    if (!why && f == EVALUATE && expected.number == 0)
+        done[in->edition]++;
     return !why;
 }
 
@@ -281,8 +285,8 @@ static bool is_end(const struct input *in, uint32_t node)
     return node < in->table_len / 4 && in->table[4 * (size_t)node] != ATTRIBUTE;
 }
 
-/* demand 3, of nodes that are no attributes: the turned path selects the start from another node exactly if the
- * path selects that node from the start */
+/* demand 3, of nodes that are no attributes, in the edition of the input: the turned path selects the start from
+ * another node exactly if the path selects that node from the start */
 static bool turns_round(struct random *random, const struct input *in)
 {
     static struct input turned;
@@ -299,11 +303,12 @@ static bool turns_round(struct random *random, const struct input *in)
     r = is_end(in, turned.start) ? selection(&turned) : NULL;
     if (!r)
         return true;
-    pairs++;
-    pairs_selected += selected;
+    pairs[in->edition]++;
+    pairs_selected[in->edition] += selected;
     if (is_selected(r, in->start) == selected)
         return true;
-    printf("DIFFERENCE between a path and its turned path, from %u and from %u\n", in->start, turned.start);
+    printf("DIFFERENCE between a path and its turned path in edition %u, from %u and from %u\n", in->edition,
+           in->start, turned.start);
     print_rows("table", in->table, in->table_len, 4);
     print_rows("path", in->path, in->path_len, 5);
     print_literals(in);
@@ -318,8 +323,9 @@ static void print_summary(uint64_t cases)
         print_seen(names[f], seen[f], NUMBERS,
                    f == VIEW ? "0 empty, 1 a part" : f == PLACE ? "axes:times" : "number:times");
     print_files_seen();
-    printf("turned paths     run from both ends of %lu pairs, %lu selected\n",
-           (unsigned long)pairs, (unsigned long)pairs_selected);
+    for (int e = 1; e < EDITIONS; e++)
+        printf("edition %d        %lu evaluations done; turned paths run from both ends of %lu pairs, %lu selected\n",
+               e, (unsigned long)done[e], (unsigned long)pairs[e], (unsigned long)pairs_selected[e]);
     printf("agreed: %lu inputs, %lu evaluations left out as too long\n",
            (unsigned long)cases, (unsigned long)left_out);
 }

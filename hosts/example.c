@@ -34,8 +34,8 @@ int main(void)
 {
     static const double literals[1]; /* none are used: length 0, but not a null pointer */
     uint32_t nodes[7], place;
-    uint32_t number = bt_evaluate(table, sizeof table / sizeof *table, path, sizeof path / sizeof *path,
-                                  literals, 0, 0, nodes, 7, &place);
+    uint32_t number = bt_evaluate(BT_EDITION_2, table, sizeof table / sizeof *table,
+                                  path, sizeof path / sizeof *path, literals, 0, 0, nodes, 7, &place);
     if (number != BT_DONE) {
         printf("refused: number %u, place %u\n", number, place);
         return 1;

@@ -1,4 +1,4 @@
-/* fixed.c: the cases of attributes that fixed.h speaks of.
+/* fixed.c: the cases of attributes and of editions that fixed.h speaks of.
  *
  * The answers were worked out by hand from documents 01 and 02. Each case is
  * asked of the archive and of the reference, so that the two cannot agree on
@@ -20,19 +20,21 @@ static const uint64_t WORK_LIMIT = 1000000;
 
 /* ---- the two sides ---- */
 
-static uint32_t reference_evaluate(const uint32_t *table, size_t table_len, const uint32_t *path, size_t path_len,
+static uint32_t reference_evaluate(uint32_t edition, const uint32_t *table, size_t table_len,
+                                   const uint32_t *path, size_t path_len,
                                    const double *literals, size_t literals_len, uint32_t start,
                                    uint32_t *out, size_t out_len, uint32_t *place)
 {
-    return ref_evaluate(table, table_len, path, path_len, literals, literals_len, start, out, out_len, place,
-                        WORK_LIMIT);
+    return ref_evaluate(edition, table, table_len, path, path_len, literals, literals_len, start, out, out_len,
+                        place, WORK_LIMIT);
 }
 
 struct side {
     const char *name;
     uint32_t (*check_table)(const uint32_t *table, size_t table_len, uint32_t *place);
     uint32_t (*axis_place)(const uint32_t *table, size_t table_len, uint32_t axis, uint32_t x, uint32_t y);
-    uint32_t (*evaluate)(const uint32_t *table, size_t table_len, const uint32_t *path, size_t path_len,
+    uint32_t (*evaluate)(uint32_t edition, const uint32_t *table, size_t table_len,
+                         const uint32_t *path, size_t path_len,
                          const double *literals, size_t literals_len, uint32_t start,
                          uint32_t *out, size_t out_len, uint32_t *place);
     uint32_t (*turn)(const uint32_t *path, size_t path_len, const double *literals, size_t literals_len,
@@ -46,10 +48,10 @@ static const struct side sides[] = {
     {"reference", ref_check_table, ref_axis_place, reference_evaluate, ref_turn, ref_view},
 };
 
-/* what literal n of every path is: n itself */
-static const double literals[] = {0, 1, 2};
+/* what literal n of every path is: n itself; one more, behind them, is bad */
+static const double literals[] = {0, 1, 2, -1};
 
-enum { LITERALS = sizeof literals / sizeof *literals };
+enum { LITERALS = 3 };
 
 /* ---- answers as text ---- */
 
@@ -129,6 +131,61 @@ static void ask_tables(const struct side *side)
     }
 }
 
+/* ---- evaluations ---- */
+
+/* rows of paths: a step behind others or alone, a predicate that is literal n, and the whole path */
+#define STEP(previous, predicate, axis, test) 24, previous, predicate, axis, test
+#define LITERAL(n) 1, n, 0, 0, 0
+#define LAST 3, 0, 0, 0, 0
+#define PREDICATE(value) 25, 0, value, 0, 0
+#define NOT(truth) 18, truth, 0, 0, 0
+#define EXISTS(path) 20, path, 0, 0, 0
+#define COUNT(path) 21, path, 0, 0, 0
+#define RELATIVE(step) 22, step, 0, 0, 0
+#define ABSOLUTE(step) 23, step, 0, 0, 0
+#define ALONE(axis, test) {STEP(0, 0, axis, test), RELATIVE(1)}
+#define NUMBERED(axis, test, n) {LITERAL(n), PREDICATE(1), STEP(0, 2, axis, test), RELATIVE(3)}
+
+static size_t path_length(const uint32_t *path)
+{
+    size_t rows = 0;
+    while (rows < PATH_ROWS && path[5 * rows] != 0)
+        rows++;
+    return 5 * rows;
+}
+
+/* all that an evaluation is given but for the literals themselves */
+struct call {
+    uint32_t edition;
+    const uint32_t *table, *path;
+    size_t table_len, path_len, literals_len, room;
+    uint32_t start;
+};
+
+static struct call call_of(uint32_t edition, const uint32_t *table, const uint32_t *path, uint32_t start)
+{
+    struct call call = {edition, table, path, 4 * rows_of(table, MOST_ROWS), path_length(path), LITERALS, MOST_ROWS,
+                        start};
+    return call;
+}
+
+/* asks for an answer and holds it to the one expected; nothing may be written behind its nodes, or by a refusal */
+static void hold_call(const struct side *side, const char *what, const struct call *c, const char *expected)
+{
+    char text[TEXT], found[TEXT];
+    uint32_t out[OUT_ROOM], before[OUT_ROOM], place;
+    memset(before, 0xA5, sizeof before);
+    memcpy(out, before, sizeof out);
+    uint32_t number = side->evaluate(c->edition, c->table, c->table_len, c->path, c->path_len,
+                                     literals, c->literals_len, c->start, out, c->room, &place);
+    size_t written = number == 0 && place < OUT_ROOM ? place : 0;
+    spell_answer(found, number, place, out, 1);
+    if (memcmp(out + written, before + written, sizeof out - written * sizeof *out) != 0)
+        snprintf(found + strlen(found), 32, ", and more was written");
+    snprintf(text, sizeof text, "edition %u, %s", c->edition, what);
+    hold(side, text, expected, found);
+}
+
 /* ---- axes ---- */
 
 /* a table and, for each of its nodes, what is on each axis, ascending */
@@ -187,43 +244,28 @@ static void spell_places(char *to, const struct side *side, const uint32_t *tabl
     spell_numbers(to, ascending, count);
 }
 
-/* asks for all nodes on each axis of each node, by their places and by a path of one step */
+/* editions and tests in which a step selects all nodes on its axis: node(), and in edition 1 * too */
+static const uint32_t whole[][2] = {{BT_EDITION_2, 0}, {BT_EDITION_1, 0}, {BT_EDITION_1, 1}};
+
+/* asks for all nodes on each axis of each node, by their places and by paths of one step */
 static void ask_axes(const struct side *side, const struct tree *tree)
 {
     uint32_t rows = (uint32_t)rows_of(tree->table, MOST_ROWS);
     for (uint32_t i = 0; i < rows * AXES; i++) {
-        uint32_t x = i / AXES, axis = i % AXES, out[OUT_ROOM], place;
-        uint32_t path[] = {24, 0, 0, axis, 0, 22, 1, 0, 0, 0};
+        uint32_t x = i / AXES, axis = i % AXES;
         char what[TEXT], found[TEXT];
         snprintf(what, sizeof what, "%u rows, axis %u of %u", rows, axis, x);
         spell_places(found, side, tree->table, rows, axis, x);
         hold(side, what, tree->axes[x][axis], found);
-        uint32_t number = side->evaluate(tree->table, 4 * (size_t)rows, path, 10, literals, LITERALS, x,
-                                         out, MOST_ROWS, &place);
-        spell_answer(found, number, place, out, 1);
-        hold(side, what, tree->axes[x][axis], found);
+        for (size_t j = 0; j < sizeof whole / sizeof *whole; j++) {
+            uint32_t path[5 * PATH_ROWS] = ALONE(axis, whole[j][1]);
+            struct call call = call_of(whole[j][0], tree->table, path, x);
+            hold_call(side, what, &call, tree->axes[x][axis]);
+        }
     }
 }
 
-/* ---- runs on the nine rows ---- */
-
-/* rows of paths: a step behind others or alone, a predicate that is literal n, and the whole path */
-#define STEP(previous, predicate, axis, test) 24, previous, predicate, axis, test
-#define LITERAL(n) 1, n, 0, 0, 0
-#define PREDICATE(value) 25, 0, value, 0, 0
-#define EXISTS(path) 20, path, 0, 0, 0
-#define RELATIVE(step) 22, step, 0, 0, 0
-#define ABSOLUTE(step) 23, step, 0, 0, 0
-#define ALONE(axis, test) {STEP(0, 0, axis, test), RELATIVE(1)}
-#define NUMBERED(axis, test, n) {LITERAL(n), PREDICATE(1), STEP(0, 2, axis, test), RELATIVE(3)}
-
-static size_t path_length(const uint32_t *path)
-{
-    size_t rows = 0;
-    while (rows < PATH_ROWS && path[5 * rows] != 0)
-        rows++;
-    return 5 * rows;
-}
+/* ---- runs on the nine rows, in edition 2 ---- */
 
 struct run { const char *what; uint32_t start; const char *answer; uint32_t path[5 * PATH_ROWS]; };
 
@@ -258,14 +300,8 @@ static const struct run runs[] = {
 static void ask_runs(const struct side *side)
 {
     for (size_t i = 0; i < sizeof runs / sizeof *runs; i++) {
-        const struct run *r = &runs[i];
-        char found[TEXT];
-        uint32_t out[OUT_ROOM], place;
-        uint32_t number = side->evaluate(nine.table, 4 * rows_of(nine.table, MOST_ROWS),
-                                         r->path, path_length(r->path), literals, LITERALS,
-                                         r->start, out, MOST_ROWS, &place);
-        spell_answer(found, number, place, out, 1);
-        hold(side, r->what, r->answer, found);
+        struct call call = call_of(BT_EDITION_2, nine.table, runs[i].path, runs[i].start);
+        hold_call(side, runs[i].what, &call, runs[i].answer);
     }
 }
 
@@ -278,6 +314,156 @@ static void ask_view(const struct side *side, uint32_t node, const char *answer)
     side->view(nine.table, 4 * rows_of(nine.table, MOST_ROWS), list, 6, node, &begin, &count);
     spell_numbers(found, list + (count > 0 ? begin : 0), count);
     hold(side, "a view", answer, found);
+}
+
+/* ---- editions ---- */
+
+/* document 01's reference tree: elements alone, 2 with 3, 4, 5 in it and 6 with 7, 8, 9 in it, both in 1 */
+static const uint32_t ten[4 * MOST_ROWS] = {
+    0,0,0,9, 1,1,0,8, 1,2,1,3, 1,3,2,0, 1,3,2,0, 1,4,2,0, 1,2,1,3, 1,3,6,0, 1,4,6,0, 1,4,6,0
+};
+
+/* in element 1 text 2, comment 3, instruction 4 and element 5, these two with the name of element 1 */
+static const uint32_t six[4 * MOST_ROWS] = {0,0,0,5, 1,1,0,4, 2,0,1,0, 3,0,1,0, 4,1,1,0, 1,1,1,0};
+
+/* a path with its answers in edition 1 and in edition 2 */
+static const struct edition_run {
+    const char *what;
+    const uint32_t *table;
+    uint32_t start;
+    const char *first, *second;
+    uint32_t path[5 * PATH_ROWS];
+} edition_runs[] = {
+    {"self::* of the root", ten, 0, "0", "", ALONE(0, 1)},
+    {"child::* among elements", ten, 1, "2 6", "2 6", ALONE(1, 1)},
+    {"parent::*", ten, 1, "0", "", ALONE(2, 1)},
+    {"ancestor::*", ten, 9, "0 1 6", "1 6", ALONE(4, 1)},
+    {"ancestor::*[2]", ten, 2, "0", "", NUMBERED(4, 1, 2)},
+    {"descendant-or-self::*", ten, 0, "0 1 2 3 4 5 6 7 8 9", "1 2 3 4 5 6 7 8 9", ALONE(5, 1)},
+    {"ancestor-or-self::*", ten, 1, "0 1", "1", ALONE(6, 1)},
+    {"self::*", nine.table, 2, "2", "", ALONE(0, 1)},
+    {"child::*", nine.table, 2, "", "", ALONE(1, 1)},
+    {"parent::*", nine.table, 2, "1", "1", ALONE(2, 1)},
+    {"ancestor::*", nine.table, 5, "0 1 4", "1 4", ALONE(4, 1)},
+    {"descendant-or-self::*", nine.table, 2, "2", "", ALONE(5, 1)},
+    {"ancestor-or-self::*", nine.table, 2, "0 1 2", "1", ALONE(6, 1)},
+    {"ancestor-or-self::*[1]", nine.table, 2, "2", "1", NUMBERED(6, 1, 1)},
+    {"following::*", nine.table, 2, "4 6 7 8", "4 8", ALONE(7, 1)},
+    {"following::*[2]", nine.table, 2, "6", "8", NUMBERED(7, 1, 2)},
+    {"preceding::*", nine.table, 8, "4 6 7", "4", ALONE(8, 1)},
+    {"preceding::*[1]", nine.table, 8, "7", "4", NUMBERED(8, 1, 1)},
+    {"following-sibling::*", nine.table, 4, "7 8", "8", ALONE(9, 1)},
+    {"preceding-sibling::*", nine.table, 8, "4 7", "4", ALONE(10, 1)},
+    {"attribute::*", nine.table, 1, "2 3", "2 3", ALONE(11, 1)},
+    {"attribute::*[2]", nine.table, 1, "3", "3", NUMBERED(11, 1, 2)},
+    {"attribute::*", nine.table, 2, "", "", ALONE(11, 1)},
+    {"attribute::*", nine.table, 6, "", "", ALONE(11, 1)},
+    {"attribute::*/self::*", nine.table, 1, "2 3", "", {STEP(0, 0, 11, 1), STEP(1, 0, 0, 1), RELATIVE(2)}},
+    {"attribute::*/parent::*", nine.table, 4, "4", "4", {STEP(0, 0, 11, 1), STEP(1, 0, 2, 1), RELATIVE(2)}},
+    {"descendant::*[attribute::*/self::*]", nine.table, 0, "1 4", "",
+     {STEP(0, 0, 11, 1), STEP(1, 0, 0, 1), RELATIVE(2), EXISTS(3), PREDICATE(4), STEP(0, 5, 3, 1), RELATIVE(6)}},
+    {"attribute::1", nine.table, 1, "2", "2", ALONE(11, 17)},
+    {"self::1 of an attribute", nine.table, 2, "", "", ALONE(0, 17)},
+    {"descendant-or-self::1 of an attribute", nine.table, 2, "", "", ALONE(5, 17)},
+    {"descendant::1", nine.table, 0, "1 8", "1 8", ALONE(3, 17)},
+    {"child::*", eleven.table, 2, "5 6 9", "6", ALONE(1, 1)},
+    {"child::*[1]", eleven.table, 2, "5", "6", NUMBERED(1, 1, 1)},
+    {"child::*[2]", eleven.table, 2, "6", "", NUMBERED(1, 1, 2)},
+    {"child::*[last()]", eleven.table, 2, "9", "6", {LAST, PREDICATE(1), STEP(0, 2, 1, 1), RELATIVE(3)}},
+    {"child::*[child::*]", eleven.table, 2, "6", "",
+     {STEP(0, 0, 1, 1), RELATIVE(1), EXISTS(2), PREDICATE(3), STEP(0, 4, 1, 1), RELATIVE(5)}},
+    {"/child::*", eleven.table, 8, "1 2 10", "2", {STEP(0, 0, 1, 1), ABSOLUTE(1)}},
+    {"following::*", eleven.table, 4, "5 6 8 9 10", "6", ALONE(7, 1)},
+    {"preceding::*", eleven.table, 10, "1 2 5 6 8 9", "2 6", ALONE(8, 1)},
+    {"preceding::*[1]", eleven.table, 10, "9", "6", NUMBERED(8, 1, 1)},
+    {"descendant::*", eleven.table, 0, "1 2 5 6 8 9 10", "2 6", ALONE(3, 1)},
+    {"descendant::*/child::*", eleven.table, 0, "5 6 8 9", "6", {STEP(0, 0, 3, 1), STEP(1, 0, 1, 1), RELATIVE(2)}},
+    {"child::9", eleven.table, 0, "", "", ALONE(1, 25)},
+    {"child::1", eleven.table, 0, "2", "2", ALONE(1, 17)},
+    {"child::text()", eleven.table, 2, "5 9", "5 9", ALONE(1, 2)},
+    {"child::comment()", eleven.table, 0, "1", "1", ALONE(1, 3)},
+    {"child::processing-instruction()", eleven.table, 0, "10", "10", ALONE(1, 4)},
+    {"self::*/parent::node(), child::* turned", eleven.table, 5, "2", "",
+     {STEP(0, 0, 0, 1), STEP(1, 0, 2, 0), RELATIVE(2)}},
+    {"self::*/child::node(), parent::* turned", eleven.table, 0, "1 2 10", "",
+     {STEP(0, 0, 0, 1), STEP(1, 0, 1, 0), RELATIVE(2)}},
+    {"child::*", six, 1, "2 3 4 5", "5", ALONE(1, 1)},
+    {"child::*[1]", six, 1, "2", "5", NUMBERED(1, 1, 1)},
+    {"child::*[2]", six, 1, "3", "", NUMBERED(1, 1, 2)},
+    {"preceding-sibling::*[1]", six, 5, "4", "", NUMBERED(10, 1, 1)},
+    {"following-sibling::*[1]", six, 2, "3", "5", NUMBERED(9, 1, 1)},
+    {"self::* of a text", six, 2, "2", "", ALONE(0, 1)},
+    {"self::* of a comment", six, 3, "3", "", ALONE(0, 1)},
+    {"self::* of an instruction", six, 4, "4", "", ALONE(0, 1)},
+    {"self::* of an element", six, 5, "5", "5", ALONE(0, 1)},
+    {"self::1 of an instruction", six, 4, "", "", ALONE(0, 17)},
+    {"child::1", six, 1, "5", "5", ALONE(1, 17)},
+    {"child::1[1]", six, 1, "5", "5", NUMBERED(1, 17, 1)},
+    {"child::node()[not(self::*)]", six, 1, "", "2 3 4",
+     {STEP(0, 0, 0, 1), RELATIVE(1), EXISTS(2), NOT(3), PREDICATE(4), STEP(0, 5, 1, 0), RELATIVE(6)}},
+    {"self::node()[count(child::*)]", six, 1, "", "1",
+     {STEP(0, 0, 1, 1), RELATIVE(1), COUNT(2), PREDICATE(3), STEP(0, 4, 0, 0), RELATIVE(5)}},
+};
+
+static void ask_edition_runs(const struct side *side)
+{
+    for (size_t i = 0; i < sizeof edition_runs / sizeof *edition_runs; i++) {
+        const struct edition_run *r = &edition_runs[i];
+        char what[TEXT];
+        snprintf(what, sizeof what, "%lu rows, %s from %u", (unsigned long)rows_of(r->table, MOST_ROWS), r->what,
+                 r->start);
+        struct call call = call_of(BT_EDITION_1, r->table, r->path, r->start);
+        hold_call(side, what, &call, r->first);
+        call.edition = BT_EDITION_2;
+        hold_call(side, what, &call, r->second);
+    }
+}
+
+/* attribute::*[1] from 2 of the eleven rows, whole and with damage, and its answer in both editions */
+static const struct damage {
+    const char *what, *answer;
+    size_t table_len, path_len, literals_len, room;
+    uint32_t start;
+} damages[] = {
+    {"no damage", "3", 44, 20, LITERALS, 1, 2},
+    {"no table", "refused with 1, place 0", 0, 20, LITERALS, 1, 2},
+    {"a number of the table too few", "refused with 1, place 0", 43, 20, LITERALS, 1, 2},
+    {"a row of the table too few", "refused with 2, place 0", 40, 20, LITERALS, 1, 2},
+    {"no path", "refused with 3, place 0", 44, 0, LITERALS, 1, 2},
+    {"a bad literal", "refused with 4, place 3", 44, 20, LITERALS + 1, 1, 2},
+    {"a row of the path too few", "refused with 5, place 2", 44, 15, LITERALS, 1, 2},
+    {"a literal too few", "refused with 5, place 0", 44, 20, 1, 1, 2},
+    {"start outside", "refused with 7, place 11", 44, 20, LITERALS, 1, 11},
+    {"no room", "refused with 8, place 1", 44, 20, LITERALS, 0, 2},
+    {"all of it", "refused with 1, place 0", 0, 0, LITERALS + 1, 0, 4294967295u},
+};
+
+/* numbers that are no editions: those beside them, the greatest, and some that end in the bits of one */
+static const struct other { uint32_t edition; const char *answer; } others[] = {
+    {0, "refused with 14, place 0"},
+    {3, "refused with 14, place 3"},
+    {4294967295u, "refused with 14, place 4294967295"},
+    {258, "refused with 14, place 258"},
+    {65537, "refused with 14, place 65537"},
+    {2147483650u, "refused with 14, place 2147483650"},
+};
+
+/* the check of the edition comes before all others */
+static void ask_damages(const struct side *side)
+{
+    static const uint32_t path[5 * PATH_ROWS] = NUMBERED(11, 1, 1);
+    for (size_t i = 0; i < sizeof damages / sizeof *damages; i++) {
+        const struct damage *d = &damages[i];
+        struct call call = {BT_EDITION_1, eleven.table, path, d->table_len, d->path_len, d->literals_len, d->room,
+                            d->start};
+        hold_call(side, d->what, &call, d->answer);
+        call.edition = BT_EDITION_2;
+        hold_call(side, d->what, &call, d->answer);
+        for (size_t j = 0; j < sizeof others / sizeof *others; j++) {
+            call.edition = others[j].edition;
+            hold_call(side, d->what, &call, others[j].answer);
+        }
+    }
 }
 
 /* ---- turning ---- */
@@ -297,6 +483,8 @@ static const struct turning turnings[] = {
      {STEP(0, 0, 0, 0), STEP(1, 0, 11, 1), STEP(2, 0, 2, 1), STEP(3, 0, 11, 1), RELATIVE(4)}},
     {"an axis too many", OUT_ROOM, "refused with 5, place 0", ALONE(12, 0)},
     {"parent::1", OUT_ROOM, "24 0 0 0 17 24 1 0 1 0 22 2 0 0 0", ALONE(2, 17)},
+    {"child::*", OUT_ROOM, "24 0 0 0 1 24 1 0 2 0 22 2 0 0 0", ALONE(1, 1)},
+    {"parent::*", OUT_ROOM, "24 0 0 0 1 24 1 0 1 0 22 2 0 0 0", ALONE(2, 1)},
     {"child::1[attribute::*[1]]", OUT_ROOM,
      "1 1 0 0 0 25 0 1 0 0 24 0 2 11 1 22 3 0 0 0 20 4 0 0 0 25 0 5 0 0 24 0 6 0 17 24 7 0 2 0 22 8 0 0 0",
      {LITERAL(1), PREDICATE(1), STEP(0, 2, 11, 1), RELATIVE(3), EXISTS(4), PREDICATE(5),
@@ -325,6 +513,8 @@ int fixed(void)
         ask_view(&sides[i], 1, "2 3 5 6 8");
         ask_view(&sides[i], 2, "2");
         ask_view(&sides[i], 4, "5 6");
+        ask_edition_runs(&sides[i]);
+        ask_damages(&sides[i]);
         ask_turnings(&sides[i]);
     }
     printf("fixed: %d answers, %d different\n", answers, differences);

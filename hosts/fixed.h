@@ -1,4 +1,4 @@
-/* fixed.h: cases of attributes with their answers, as documents 01 and 02 have them. */
+/* fixed.h: cases of attributes and of editions with their answers, as documents 01 and 02 have them. */
 #ifndef FIXED_H
 #define FIXED_H
 

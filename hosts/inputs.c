@@ -727,6 +727,15 @@ static uint32_t any_node(struct random *random, uint32_t rows)
     return chance(random, 50) ? rows + below(random, 2) : odd_number(random, 0, rows);
 }
 
+/* the one or the other edition, few times a number that is none */
+static uint32_t any_edition(struct random *random)
+{
+    static const uint32_t others[] = {0, 3, 0xFFFFFFFFu};
+    if (chance(random, 92))
+        return 1 + below(random, 2);
+    return chance(random, 75) ? others[below(random, 3)] : any(random);
+}
+
 void make_input(struct random *random, struct input *in)
 {
     static const uint32_t attributes[] = {0, 40, 80, 100};
@@ -749,4 +758,5 @@ void make_input(struct random *random, struct input *in)
         damage_path(random, in);
     for (uint32_t n = chance(random, 22) ? 1 + below(random, 2) : 0; n > 0 && in->table_len >= 4; n--)
         damage_table(random, in);
+    in->edition = any_edition(random);
 }

@@ -19,7 +19,7 @@ struct input {
     uint32_t table[TABLE_ROOM], path[PATH_ROOM], list[LIST_ROOM];
     double literals[LITERAL_ROOM];
     size_t table_len, path_len, literals_len, list_len;
-    uint32_t start, node;
+    uint32_t edition, start, node;
 };
 
 enum shape { MIXED, CHAIN, WIDE, BUSHY, SHAPES };

@@ -593,17 +593,23 @@ static struct node *axis_next(uint32_t axis, struct node *node, struct node *con
     }
 }
 
-/* section 2.3: the principal node type of an axis, which * and names ask for */
+/* section 2.3: the principal node type of an axis, which * of edition 2 and names ask for */
 static uint32_t principal_kind(uint32_t axis)
 {
     return axis == ATTRIBUTE_AXIS ? ATTRIBUTE : ELEMENT;
 }
 
-static bool passes(uint32_t axis, uint32_t test, const struct node *node)
+/* in edition 1 * matches any node, in edition 2 it is as the Recommendation has it */
+static bool passes_star(uint32_t edition, uint32_t axis, const struct node *node)
+{
+    return edition == 1 || node->kind == principal_kind(axis);
+}
+
+static bool passes(uint32_t edition, uint32_t axis, uint32_t test, const struct node *node)
 {
     switch (test) {
     case 0: return true;
-    case 1: return node->kind == principal_kind(axis);
+    case 1: return passes_star(edition, axis, node);
     case 2: return node->kind == TEXT;
     case 3: return node->kind == COMMENT;
     case 4: return node->kind == INSTRUCTION;
@@ -629,6 +635,7 @@ uint32_t ref_axis_place(const uint32_t *table, size_t table_len, uint32_t axis, 
 /* ---- expressions (section 3) ---- */
 
 struct run {
+    uint32_t edition;
     struct node *nodes;
     uint32_t count;
     const double *literals;
@@ -719,12 +726,13 @@ static bool predicate_keeps(struct run *run, const struct expression *e, struct 
 
 /* ---- steps and paths (sections 2 and 2.1) ---- */
 
-static uint32_t candidates(uint32_t axis, uint32_t test, struct node *context, struct node **list)
+static uint32_t candidates(uint32_t edition, uint32_t axis, uint32_t test, struct node *context,
+                           struct node **list)
 {
     uint32_t count = 0;
     struct node *node = axis_first(axis, context);
     for (; node; node = axis_next(axis, node, context))
-        if (passes(axis, test, node))
+        if (passes(edition, axis, test, node))
             list[count++] = node;
     return count;
 }
@@ -747,7 +755,7 @@ static void take_step(struct run *run, const struct step *step, struct node *fro
     run->work += run->count;
     if (too_long(run))
         return;
-    uint32_t count = candidates(step->axis, step->test, from, list);
+    uint32_t count = candidates(run->edition, step->axis, step->test, from, list);
     for (const struct predicate *p = step->predicates; p; p = p->next)
         count = filter(run, p->expression, list, count);
     for (uint32_t i = 0; i < count; i++)
@@ -799,7 +807,8 @@ static uint32_t run_path(struct run *run, const struct path *path, uint32_t star
     return number;
 }
 
-uint32_t ref_evaluate(const uint32_t *table, size_t table_len,
+uint32_t ref_evaluate(uint32_t edition,
+                      const uint32_t *table, size_t table_len,
                       const uint32_t *path, size_t path_len,
                       const double *literals, size_t literals_len,
                       uint32_t start, uint32_t *out, size_t out_len,
@@ -807,7 +816,10 @@ uint32_t ref_evaluate(const uint32_t *table, size_t table_len,
 {
     struct syntax *syntax;
     struct path *top;
-    struct run run = {NULL, (uint32_t)(table_len / 4), literals, 0, work_limit};
+    struct run run = {edition, NULL, (uint32_t)(table_len / 4), literals, 0, work_limit};
+    *place = edition;
+    if (edition != 1 && edition != 2)
+        return 14;
     uint32_t number = ref_check_table(table, table_len, place);
     if (number == 0)
         number = accept(path, path_len, literals, literals_len, place, &syntax, &top);

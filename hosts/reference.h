@@ -24,7 +24,8 @@ uint32_t ref_axis_place(const uint32_t *table, size_t table_len, uint32_t axis, 
 
 /* work_limit bounds the work: the table's rows, for each path begun and each step
  * taken from one node. */
-uint32_t ref_evaluate(const uint32_t *table, size_t table_len,
+uint32_t ref_evaluate(uint32_t edition,
+                      const uint32_t *table, size_t table_len,
                       const uint32_t *path, size_t path_len,
                       const double *literals, size_t literals_len,
                       uint32_t start, uint32_t *out, size_t out_len,

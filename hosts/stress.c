@@ -3,7 +3,8 @@
  * Each case runs the archive in a thread whose stack is exactly 1 MiB, above a
  * page that cannot be touched, and compares the answers with the reference,
  * which runs on the ordinary stack. The stack is filled with a pattern first,
- * so that the most that was used can be told.
+ * so that the most that was used can be told. Paths run in edition 2, and again
+ * in edition 1 with every node() written as *, which there selects the same.
  */
 #include "stress.h"
 
@@ -181,7 +182,7 @@ static void *run_archive(void *argument)
     a->table = bt_check_table(in->table, in->table_len, &a->place[0]);
     a->axis_place = bt_axis_place(in->table, in->table_len, DESCENDANT, 0, ROWS - 1);
     a->path = bt_check_path(in->path, in->path_len, in->literals, in->literals_len, &a->place[1]);
-    a->evaluate = bt_evaluate(in->table, in->table_len, in->path, in->path_len, in->literals,
+    a->evaluate = bt_evaluate(in->edition, in->table, in->table_len, in->path, in->path_len, in->literals,
                               in->literals_len, in->start, a->nodes, ROWS, &a->place[2]);
     a->turn = bt_turn(in->path, in->path_len, in->literals, in->literals_len,
                       a->turned, TURNED_ROOM, &a->place[3]);
@@ -194,7 +195,7 @@ static void run_reference(const struct input *in, struct answers *a)
     a->table = ref_check_table(in->table, in->table_len, &a->place[0]);
     a->axis_place = ref_axis_place(in->table, in->table_len, DESCENDANT, 0, ROWS - 1);
     a->path = ref_check_path(in->path, in->path_len, in->literals, in->literals_len, &a->place[1]);
-    a->evaluate = ref_evaluate(in->table, in->table_len, in->path, in->path_len, in->literals,
+    a->evaluate = ref_evaluate(in->edition, in->table, in->table_len, in->path, in->path_len, in->literals,
                                in->literals_len, in->start, a->nodes, ROWS, &a->place[2], WORK_LIMIT);
     a->turn = ref_turn(in->path, in->path_len, in->literals, in->literals_len,
                        a->turned, TURNED_ROOM, &a->place[3]);
@@ -245,6 +246,32 @@ static void note(bool same, size_t used)
     differences += !same;
 }
 
+/* writes each node() of a path as *, which in edition 1 is the same */
+static void write_stars(struct input *to)
+{
+    to->edition = BT_EDITION_1;
+    for (size_t i = 0; i < to->path_len; i += 5)
+        if (to->path[i] == 24 && to->path[i + 4] == 0)
+            to->path[i + 4] = 1;
+}
+
+/* runs the archive in edition 1 with stars, which must give the number, place and nodes of edition 2 */
+static void run_stars(const char *what, const struct answers *expected)
+{
+    static struct input starred;
+    static struct answers found;
+    struct job job = {&starred, &found};
+    starred = in;
+    write_stars(&starred);
+    memset(&found, 0, sizeof found);
+    size_t used = on_small_stack(run_archive, &job);
+    bool same = found.evaluate == expected->evaluate && found.place[2] == expected->place[2] &&
+                memcmp(found.nodes, expected->nodes, sizeof found.nodes) == 0;
+    if (!same)
+        printf("DIFFERENT  %s, with stars in edition 1: evaluate %u/%u\n", what, found.evaluate, found.place[2]);
+    note(same, used);
+}
+
 static void run_case(const char *what)
 {
     static struct answers expected, found;
@@ -260,6 +287,7 @@ static void run_case(const char *what)
            what, (unsigned long)(in.path_len / 5), found.evaluate, found.place[2], found.turn,
            found.place[3], (unsigned long)(used / 1024));
     note(same, used);
+    run_stars(what, &expected);
 }
 
 /* an empty path, and a list of all nodes to look at from node 1 */
@@ -271,6 +299,7 @@ static struct maker begin_path(uint32_t start)
     in.literals_len = 1;
     for (in.list_len = 0; in.list_len < ROWS; in.list_len++)
         in.list[in.list_len] = (uint32_t)in.list_len;
+    in.edition = BT_EDITION_2;
     in.start = start;
     in.node = 1;
     return maker;

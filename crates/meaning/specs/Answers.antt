@@ -60,13 +60,13 @@ axisPlace t axis x y = cond (askable t axis x y) (place t (axisOf axis) x y) 0
 unfoldable pub pathAnswer : List ℕ → List Float → Answer
 pathAnswer p literals = pathChecks p literals (answer 0 (rowsOf p))
 
+-- the editions of rule sheets are 1 and 2
+unfoldable pub isEdition : ℕ → Bool
+isEdition edition = eqb edition 1 || eqb edition 2
+
 -- the nodes that a path of rows selects from a node, in an edition
 abbrev pub selected : ℕ → List ℕ → List ℕ → List Float → ℕ → List ℕ
 selected edition t p literals start = select edition t literals (pathTree p) start
-
--- the editions of a rule sheet are 1 and 2
-unfoldable pub isEdition : ℕ → Bool
-isEdition edition = eqb edition 1 || eqb edition 2
 
 -- 8: more selected than the output holds; 0: all of it is written
 abbrev pub handed : List ℕ → ℕ → Answer

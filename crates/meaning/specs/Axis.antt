@@ -82,7 +82,7 @@ axisNodes t axis x = keep (on t axis x) (ordered (isReverse axis) (rows t))
 unfoldable pub place : List ℕ → Axis → ℕ → ℕ → ℕ
 place t axis x y = placeFrom 1 (axisNodes t axis x) y
 
--- the kind that `*` and names match on an axis: attributes on the attribute axis, elements on all others
+-- the kind that names, and in edition 2 `*`, match on an axis: attributes on the attribute axis, elements on all others
 unfoldable pub principal : Axis → ℕ
 principal self = 1
 principal child = 1
@@ -105,7 +105,7 @@ pub data Test : Type 0 where
 unfoldable pub testOf : ℕ → Test
 testOf n = cond (leb n 4) (getD (any-node ∷ star ∷ text ∷ comment ∷ instruction ∷ []) n any-node) (named (n - 16))
 
--- does node y pass the test, where names match the kind k? In edition 1 `*` matches any node, in edition 2 the kind k as names do
+-- does node y pass the test, where names match the kind k? `*` matches any node in edition 1, and the kind k in edition 2
 unfoldable pub passes : ℕ → List ℕ → ℕ → Test → ℕ → Bool
 passes edition t k any-node y = true
 passes edition t k star y = eqb edition 1 || eqb (kind t y) k
