@@ -1,5 +1,5 @@
-# An independent checker, written from document 01 and document 02's W-206 and
-# W-209 alone: the number and the place of check_table, check_path, turn and
+# An independent checker, written from document 01 and document 02's W-206, W-209
+# and W-210 alone: the number and the place of check_table, check_path, turn and
 # the refusals of evaluate, the turned rows, and the part the view hands back.
 #
 # Tables and paths are flat lists of whole numbers, literals are lists of
@@ -12,6 +12,7 @@ MAX_DEPTH = 8
 INFINITY_BITS = 0x7FF0000000000000
 MAX_NAME = 65535
 LAST_AXIS = 11
+EDITIONS = (1, 2)
 
 ELEMENT, TEXT, COMMENT, INSTRUCTION, ATTRIBUTE = range(1, 6)
 ATTRIBUTE_AXIS = 11
@@ -242,9 +243,11 @@ def check_path(path, literals):
     return 0, len(rows)
 
 
-# ---- evaluation: the refusals 1 to 7; None means that it runs ----
+# ---- evaluation: the refusals 14 and 1 to 7; None means that it runs ----
 
-def refuse_evaluate(table, path, literals, start):
+def refuse_evaluate(edition, table, path, literals, start):
+    if edition not in EDITIONS:
+        return 14, edition
     number, place = check_table(table)
     if number != 0:
         return number, place

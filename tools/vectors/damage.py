@@ -5,6 +5,7 @@ import paths
 import selection
 import tables
 from paths import Row
+from rng import Rng
 
 TOP = 4294967295
 NAN_BITS = [0x7FF8000000000000, 0xFFF8000000000000, 0x7FF0000000000001,
@@ -126,10 +127,27 @@ def ask_table(rng, sheet, table):
 
 def ask_evaluate(rng, sheet, table, path, literals, start):
     """Only if refused with 1 to 7."""
-    refused = checker.refuse_evaluate(table, path, literals, start)
+    refused = checker.refuse_evaluate(2, table, path, literals, start)
     if refused is not None:
         room = rng.pick([0, 1, 5, 40])
-        sheet.evaluate("damage", table, path, literals, start, room, *refused, [])
+        sheet.evaluate("damage", 2, table, path, literals, start, room, *refused, [])
+        ask_editions(sheet, room, table, path, literals, start)
+
+
+def ask_editions(sheet, room, *inputs):
+    """Some in edition 1 and in no edition; a stream of its own leaves the others' choices alone."""
+    rng = Rng(len(sheet.answers))
+    editions = [1] if rng.chance(30) else []
+    editions += [no_edition(rng)] if rng.chance(50) else []
+    for edition in editions:
+        sheet.evaluate("damage", edition, *inputs, room, *checker.refuse_evaluate(edition, *inputs), [])
+
+
+def no_edition(rng):
+    """Any number but 1 and 2, some of which are these in their lowest bits."""
+    low = rng.pick([8, 16, 31])
+    near = rng.pick([4, TOP - 1, (1 << low) + 1, (1 << low) + 2])
+    return rng.weighted([(25, 0), (25, 3), (20, TOP), (15, near), (15, rng.between(3, TOP))])
 
 
 def table_cases(rng, sheet, count):

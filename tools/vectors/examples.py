@@ -100,6 +100,44 @@ BEFORE = [0, 0, 0, 3, 1, 1, 0, 2, 5, 1, 1, 0, 1, 2, 1, 0]
 MORE_BEFORE = [0, 0, 0, 7, 1, 1, 0, 5, 5, 1, 1, 0, 5, 2, 1, 0, 1, 2, 1, 1, 5, 1, 4, 0, 3, 0, 1, 0, 4, 1, 0, 0]
 
 
+# <?p1?><e1 e1="v">t<!--c--><?p2?><e2 e2="v">t</e2></e1><!--c-->
+MIXED = [0, 0, 0, 10, 4, 1, 0, 0, 1, 1, 0, 7, 5, 1, 2, 0, 2, 0, 2, 0, 3, 0, 2, 0, 4, 2, 2, 0,
+         1, 2, 2, 2, 5, 2, 7, 0, 2, 0, 7, 0, 3, 0, 0, 0]
+
+
+def edition_list():
+    """W-210: the nodes in edition 1 and those in edition 2."""
+    one = Row(10, Row(21, relative((1, 1))), number(1.0))
+    inner = exists((1, 0, exists((1, 1), (0, 1))))
+    return [
+        (selection.REFERENCE, 1, relative((2, 1)), [0], []),
+        (selection.REFERENCE, 1, relative((1, 1)), [2, 6], [2, 6]),
+        (selection.WITH_ATTRIBUTES, 2, relative((0, 1)), [2], []),
+        (selection.WITH_ATTRIBUTES, 2, relative((6, 1)), [0, 1, 2], [1]),
+        (selection.WITH_ATTRIBUTES, 2, relative((5, 1)), [2], []),
+        (selection.WITH_ATTRIBUTES, 1, relative((11, 1)), [2, 3], [2, 3]),
+        (selection.WITH_ATTRIBUTES, 2, relative((0, 17)), [], []),
+        (MIXED, 2, relative((1, 1, number(1.0))), [4], [7]),
+        (MIXED, 2, relative((1, 1)), [4, 5, 6, 7], [7]),
+        (MIXED, 2, relative((1, 1, Row(3))), [7], [7]),
+        (MIXED, 2, relative((11, 1)), [3], [3]),
+        (MIXED, 2, relative((11, 17)), [3], [3]),
+        (MIXED, 2, relative((1, 18)), [7], [7]),
+        (MIXED, 0, relative((1, 17)), [2], [2]),
+        (MIXED, 6, relative((0, 18)), [], []),
+        (MIXED, 6, relative((0, 1)), [6], []),
+        (MIXED, 0, relative((3, 1)), [1, 2, 4, 5, 6, 7, 9, 10], [2, 7]),
+        (MIXED, 9, absolute((0, 1)), [0], []),
+        (MIXED, 9, relative((4, 1, number(3.0))), [0], []),
+        (MIXED, 7, relative((8, 1, number(1.0))), [6], []),
+        (MIXED, 3, relative((0, 1), (2, 1)), [2], []),
+        (MIXED, 2, relative((1, 0, exists((0, 1)))), [4, 5, 6, 7], [7]),
+        (MIXED, 2, relative((1, 18, exists((1, 1)))), [7], []),
+        (MIXED, 0, absolute((5, 0, one)), [7], [0, 2]),
+        (MIXED, 0, absolute((5, 0, inner)), [0, 2], [0]),
+    ]
+
+
 def settled_list():
     three = Row(10, Row(21, relative((7, 0))), number(3.0))
     return [
@@ -154,9 +192,14 @@ def turning_cases():
 
 def make_case(name, table, start, top, expected, rng):
     path, literals = paths.write_path(rng, top, False)
-    nodes = meaning.Evaluator(table, path, literals).select(start)
-    return dict(name=name, table=table, path=path, literals=literals,
-                start=start, guess=nodes, expected=expected)
+    case = dict(name=name, table=table, path=path, literals=literals, start=start)
+    return in_edition(2, case, expected)
+
+
+def in_edition(edition, case, expected):
+    inputs = case["table"], case["path"], case["literals"]
+    nodes = meaning.Evaluator(edition, *inputs).select(case["start"])
+    return dict(case, edition=edition, guess=nodes, expected=expected)
 
 
 def reference_cases():
@@ -164,6 +207,16 @@ def reference_cases():
     lists = [(selection.REFERENCE, reference_list()), (selection.WITH_ATTRIBUTES, attribute_list())]
     return [make_case(name, table, start, top, expected, rng)
             for table, cases in lists for name, start, top, expected in cases]
+
+
+def edition_cases():
+    """Each in edition 2 and in edition 1."""
+    rng = Rng(4)
+    out = []
+    for table, start, top, first, second in edition_list():
+        case = make_case("W-210", table, start, top, second, rng)
+        out += [case, in_edition(1, case, first)]
+    return out
 
 
 def settled_cases():

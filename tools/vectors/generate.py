@@ -5,6 +5,7 @@ import sys
 import attributes
 import checker
 import damage
+import editions
 import engines
 import examples
 import known
@@ -29,7 +30,7 @@ def ask_cases(build, cases):
             table = case["table"]
             assert checker.check_table(table)[0] == 0
             questions.append(engines.document_question(table))
-        case["text"] = text.path_text(case["path"], case["literals"])
+        case["text"] = text.path_text(case["edition"], case["path"], case["literals"])
         questions.append(engines.eval_question(case["start"], case["text"]))
     first, second = engines.ask_both(build, questions)
     assert len(first) == len(second) == len(cases)
@@ -46,7 +47,7 @@ def sort_out(cases, log):
             kept.append(case)
             continue
         case["cause"] = known.cause(case)
-        log.append("%(cause)s: %(name)s from %(start)d: %(text)s\n  pugixml %(pugixml)s\n"
+        log.append("%(cause)s: %(name)s in edition %(edition)d from %(start)d: %(text)s\n  pugixml %(pugixml)s\n"
                    "  libxml2 %(libxml2)s\n  third   %(guess)s\n" % case)
         if case["cause"] is None:
             sys.exit("a disagreement that docs/ENGINES.md does not explain:\n" + log[-1])
@@ -64,28 +65,70 @@ def choose_room(rng, count):
     return count
 
 
+def inputs_of(case):
+    return [case[k] for k in ("edition", "table", "path", "literals", "start")]
+
+
 def write_case(rng, sheet, case, sort):
     nodes = case["pugixml"]
     room = len(nodes) + 2 if "expected" in case else choose_room(rng, len(nodes))
-    where = (case["table"], case["path"], case["literals"], case["start"], room)
+    where = (*inputs_of(case), room)
     if len(nodes) > room:
         sheet.evaluate(sort, *where, 8, len(nodes), [])
     else:
         sheet.evaluate(sort, *where, 0, len(nodes), nodes)
 
 
+# ---- edition 1 ----
+
+def ask_first(rng, build, cases, log):
+    """What is asked in edition 1 behind each case of edition 2."""
+    for case in cases:
+        case["first"] = editions.in_first(rng, case)
+    asked = [first for case in cases for first in case["first"]]
+    ask_cases(build, asked)
+    sort_out(asked, log)
+    print("asked in edition 1 too %d, row scans %d million" % (len(asked), sum(c["scans"] for c in asked) // 1000000))
+
+
+def write_first(rng, sheet, case, sort):
+    for first in case["first"]:
+        if agreed(first):
+            write_case(rng, sheet, first, sort)
+
+
+def write_no_edition(rng, sheet, case):
+    """A good case in no edition, with room and without."""
+    edition, inputs = damage.no_edition(rng), inputs_of(case)[1:]
+    room = rng.pick([0, 1, len(case["guess"])])
+    sheet.evaluate("editions", edition, *inputs, room, *checker.refuse_evaluate(edition, *inputs), [])
+
+
+def edition_cases(rng, build, sheet, log):
+    cases = examples.edition_cases()
+    ask_cases(build, cases)
+    for case in cases:
+        assert case["pugixml"] == case["libxml2"] == case["guess"] == case["expected"], case["text"]
+        write_case(rng, sheet, case, "document")
+    cases = editions.systematic_cases(rng)
+    ask_cases(build, cases)
+    for case in sort_out(cases, log):
+        write_case(rng, sheet, case, "editions")
+    editions.add_refusals(sheet)
+
+
 # ---- turned paths, held against the engines ----
 
-def all_starts(name, table, path, literals):
+def all_starts(edition, name, table, path, literals):
     """Every node but attributes: turning speaks of pairs of other nodes."""
     cases = []
     for start in range(len(table) // 4):
         if table[4 * start] == tables.ATTRIBUTE:
             continue
-        nodes, _ = selection.guess(table, path, literals, start, 30000)
+        nodes, _ = selection.guess(edition, table, path, literals, start, 30000)
         if nodes is None:
             return None
-        cases.append(dict(name=name, table=table, path=path, literals=literals,
+        cases.append(dict(name=name, edition=edition, table=table, path=path, literals=literals,
                           start=start, guess=nodes))
     return cases
 
@@ -99,11 +142,18 @@ def turning_pair(rng, table, names):
         return None
     number, place, turned = checker.turn(path, literals, room)
     assert number == 0 and checker.check_path(turned, literals) == (0, place)
-    there = all_starts("turning", table, path, literals)
-    back = all_starts("turned", table, turned, literals)
+    there, back = both_ways(2, table, path, turned, literals)
     if there is None or back is None or not any(c["guess"] for c in there):
         return None
-    return dict(path=path, literals=literals, room=room, there=there, back=back)
+    pair = dict(path=path, literals=literals, room=room, there=there, back=back, first=None)
+    if editions.has_star(path):
+        there, back = both_ways(1, table, path, turned, literals)
+        pair["first"] = dict(there=there, back=back) if there and back else None
+    return pair
+
+
+def both_ways(edition, table, path, turned, literals):
+    return all_starts(edition, "turning", table, path, literals), all_starts(edition, "turned", table, turned, literals)
 
 
 def engine_relation(cases, engine):
@@ -135,7 +185,37 @@ def explained_pair(pair):
     return relation_turns(there, back) and all(agreed(c) or known.cause(c) for c in cases)
 
 
-def turning_cases(rng, build, sheet, log, count):
+def pair_sound(pair, log):
+    """Whether both engines bear the turning out; what known errors don't explain ends it."""
+    if not explained_pair(pair):
+        sys.exit("a disagreement on turning: " + pair["there"][0]["text"])
+    if turns_round(pair):
+        return True
+    causes = {known.cause(c) for c in pair["there"] + pair["back"] if not agreed(c)}
+    log.append("%s: turning in edition %d: %s\n"
+               % (" ".join(sorted(causes)), pair["there"][0]["edition"], pair["there"][0]["text"]))
+    return False
+
+
+def ask_pairs(build, pairs, edition):
+    asked = [c for pair in pairs for c in pair["there"] + pair["back"]]
+    ask_cases(build, asked)
+    print("turning pairs in edition %d %d, asked with %d questions" % (edition, len(pairs), len(asked)))
+
+
+def most_selected(cases):
+    return max(cases, key=lambda c: len(c["guess"]))
+
+
+def write_turned_first(rng, sheet, cases, others):
+    """The case of edition 1 that selects most, if edition 2 selects something else there, or now and then."""
+    best = most_selected(cases)
+    same = any(c["start"] == best["start"] and c["guess"] == best["guess"] for c in others)
+    if agreed(best) and (not same or rng.chance(30)):
+        write_case(rng, sheet, best, "turning")
+
+
+def turning_cases(rng, first_rng, build, sheet, log, count):
     pairs = []
     while len(pairs) < count:
         share = tables.some_share(rng)
@@ -144,22 +224,22 @@ def turning_cases(rng, build, sheet, log, count):
             pair = turning_pair(rng, table, [1, 2, 3])
             if pair is not None:
                 pairs.append(pair)
-    asked = [c for pair in pairs for c in pair["there"] + pair["back"]]
-    ask_cases(build, asked)
-    print("turning pairs %d, asked with %d questions" % (len(pairs), len(asked)))
+    ask_pairs(build, pairs, 2)
+    ask_pairs(build, [pair["first"] for pair in pairs if pair["first"]], 1)
     for pair in pairs:
-        if not explained_pair(pair):
-            sys.exit("a disagreement on turning: " + pair["there"][0]["text"])
-        if not turns_round(pair):
-            causes = {known.cause(c) for c in pair["there"] + pair["back"] if not agreed(c)}
-            log.append("%s: turning: %s\n" % (" ".join(sorted(causes)), pair["there"][0]["text"]))
+        sound, first = pair_sound(pair, log), pair["first"]
+        if first and not pair_sound(first, log):
+            first = None
+        if not sound:
             continue
         result = checker.turn(pair["path"], pair["literals"], pair["room"])
         sheet.turn("turning", pair["path"], pair["literals"], pair["room"], *result)
-        for cases in (pair["there"], pair["back"]):
-            best = max(cases, key=lambda c: len(c["guess"]))
+        for way in ("there", "back"):
+            best = most_selected(pair[way])
             if agreed(best):
                 write_case(rng, sheet, best, "turning")
+            if first:
+                write_turned_first(first_rng, sheet, first[way], pair[way])
 
 
 # ---- places, held against the engines ----
@@ -216,14 +296,19 @@ def main(build, folder):
     chooser = selection.choose_cases(Rng(SEED + 12))
     ask_cases(build, chooser.cases)
     kept = sort_out(chooser.cases, log)
-    rng = Rng(SEED + 2)
+    rng, first_rng = Rng(SEED + 2), Rng(SEED + 14)
+    ask_first(first_rng, build, kept, log)
     for case in kept:
         write_case(rng, sheet, case, "engines")
-    turning_cases(Rng(SEED + 3), build, sheet, log, 160)
+        write_first(first_rng, sheet, case, "engines")
+        if first_rng.chance(3):
+            write_no_edition(first_rng, sheet, case)
+    turning_cases(Rng(SEED + 3), Rng(SEED + 15), build, sheet, log, 160)
     damage.add_damage(Rng(SEED + 4), sheet)
     place_cases(Rng(SEED + 5), build, sheet, log)
     wellformed.add_cases(Rng(SEED + 6), sheet)
     attributes.add_cases(Rng(SEED + 8), sheet)
+    edition_cases(Rng(SEED + 16), build, sheet, log)
     write_lines(folder + "/stdin", sheet.commands)
     write_lines(folder + "/stdout", sheet.answers)
     write_lines(build + "/disagreements.txt", log)

@@ -32,8 +32,8 @@ ERRORS = {"preceding": WithoutFirst, "following": ElementsFollowing, "both": Bot
 
 def explains(tree, case):
     """Whether libxml2's answer is exactly what these axes make of the path."""
-    evaluator = meaning.Evaluator(case["table"], case["path"], case["literals"])
-    evaluator.tree = tree(case["table"])
+    evaluator = meaning.Evaluator(case["edition"], case["table"], case["path"], case["literals"])
+    evaluator.tree = tree(case["table"], case["edition"])
     return evaluator.select(case["start"]) == case["libxml2"]
 
 

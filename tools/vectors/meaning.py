@@ -53,8 +53,11 @@ ARITHMETIC = {
 
 
 class Tree:
-    def __init__(self, table):
+    """The axes of a table's nodes, and their tests, in which alone editions differ."""
+
+    def __init__(self, table, edition=2):
         n = len(table) // 4
+        self.edition = edition
         self.count = n
         self.kind = table[0::4]
         self.name = table[1::4]
@@ -68,7 +71,7 @@ class Tree:
         self.has_attributes = ATTRIBUTE in self.kind
 
     def passes(self, i, test, axis):
-        if test == 0:
+        if test == 0 or (test == 1 and self.edition == 1):
             return True
         if 2 <= test <= 4:
             return self.kind[i] == test
@@ -125,8 +128,8 @@ class Tree:
 class Evaluator:
     """pairs counts context and axis pairs, contexts the contexts of steps."""
 
-    def __init__(self, table, path, literals, limit=None):
-        self.tree = Tree(table)
+    def __init__(self, edition, table, path, literals, limit=None):
+        self.tree = Tree(table, edition)
         self.rows = [path[i:i + 5] for i in range(0, len(path), 5)]
         self.values = [literal_value(b) for b in literals]
         self.limit = limit

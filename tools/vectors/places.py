@@ -44,9 +44,9 @@ def question(rng, table, x, axis, y):
     k = place(checker.check_table, table, axis, x, y)
     step = (axis, 0, examples.number(float(k))) if k else (axis, 0)
     path, literals = paths.write_path(rng, examples.relative(step), False)
-    nodes, _ = selection.guess(table, path, literals, x, 100000)
+    nodes, _ = selection.guess(2, table, path, literals, x, 100000)
     assert (nodes == [y]) if k else (y not in nodes)
-    return dict(name="place", table=table, path=path, literals=literals,
+    return dict(name="place", edition=2, table=table, path=path, literals=literals,
                 start=x, guess=nodes, axis=axis, node=y, place=k)
 
 

@@ -33,8 +33,8 @@ class Player:
     def check_path(self):
         return "%d %d" % self.check.check_path(self.state["path"], self.state["literals"])
 
-    def evaluate(self, start, room):
-        inputs = [self.state[k] for k in ("table", "path", "literals")]
+    def evaluate(self, edition, start, room):
+        inputs = [edition] + [self.state[k] for k in ("table", "path", "literals")]
         refused = self.check.refuse_evaluate(*inputs, start)
         if refused is not None:
             return "%d %d" % refused
@@ -49,7 +49,7 @@ class Player:
         return sheet.answer(*self.check.turn(self.state["path"], self.state["literals"], room))
 
     def place(self, axis, x, y):
-        tree = meaning.Tree if self.evaluator is None else lambda table: self.evaluator(table, [], []).tree
+        tree = meaning.Tree if self.evaluator is None else lambda table: self.evaluator(2, table, [], []).tree
         return "%d" % places.place(self.check.check_table, self.state["table"], axis, x, y, tree)
 
     def view(self, node, count, *entries):

@@ -1,6 +1,7 @@
 # The evaluation cases: which paths are asked of which tables from which nodes.
-# A case is a dictionary with name, table, path, literals, start, and guess (the
-# third opinion), which is only used to choose and to compare.
+# A case is a dictionary with name, edition, table, path, literals, start, and
+# guess (the third opinion), which is only used to choose and to compare. These
+# are of edition 2; editions.py asks some of them in edition 1 too.
 import checker
 import meaning
 import paths
@@ -19,9 +20,9 @@ ELEVEN = [0, 0, 0, 10, 3, 0, 0, 0, 1, 1, 0, 7, 5, 1, 2, 0, 5, 2, 2, 0, 2, 0, 2, 
           1, 2, 2, 2, 5, 1, 6, 0, 3, 0, 6, 0, 2, 0, 2, 0, 4, 9, 0, 0]
 
 
-def guess(table, path, literals, start, limit):
+def guess(edition, table, path, literals, start, limit):
     """The selected nodes and the scans of a whole-table evaluator, or None."""
-    evaluator = meaning.Evaluator(table, path, literals, limit)
+    evaluator = meaning.Evaluator(edition, table, path, literals, limit)
     try:
         nodes = evaluator.select(start)
     except meaning.TooLong:
@@ -36,13 +37,13 @@ class Chooser:
         self.scans = 0
 
     def add(self, name, table, path, literals, start, nodes):
-        self.cases.append(dict(name=name, table=table, path=path, literals=literals,
+        self.cases.append(dict(name=name, edition=2, table=table, path=path, literals=literals,
                                start=start, guess=nodes))
 
     def add_top(self, name, table, top, start, limit=200000):
         """One given path from one given node."""
         path, literals = paths.write_path(self.rng, top, self.rng.chance(50))
-        nodes, scans = guess(table, path, literals, start, limit)
+        nodes, scans = guess(2, table, path, literals, start, limit)
         if nodes is not None:
             self.scans += scans
             self.add(name, table, path, literals, start, nodes)
@@ -70,7 +71,7 @@ class Chooser:
             return 0
         made = 0
         for start in self.starts_for(len(table) // 4, path):
-            nodes, scans = guess(table, path, literals, start, limit)
+            nodes, scans = guess(2, table, path, literals, start, limit)
             if nodes is None or made == wanted:
                 break
             if nodes or self.rng.chance(3):

@@ -22,6 +22,8 @@ class Sheet:
             key = (sort, "view", "part")
         if key[1] == "place" and key[2] != "0":
             key = (sort, "place", "there")
+        if key[1] == "evaluate" and key[2] != "14":
+            key = (sort, "evaluate " + command.split()[1], key[2])
         self.counts[key] = self.counts.get(key, 0) + 1
 
     def check_table(self, sort, table, result):
@@ -33,11 +35,11 @@ class Sheet:
         self.set("path", path)
         self.add(sort, "check_path", "%d %d" % result)
 
-    def evaluate(self, sort, table, path, literals, start, room, number, place, written):
+    def evaluate(self, sort, edition, table, path, literals, start, room, number, place, written):
         self.set("table", table)
         self.set("literals", literals)
         self.set("path", path)
-        self.add(sort, "evaluate %d %d" % (start, room), answer(number, place, written))
+        self.add(sort, "evaluate %d %d %d" % (edition, start, room), answer(number, place, written))
 
     def turn(self, sort, path, literals, room, number, place, written):
         self.set("literals", literals)

@@ -11,8 +11,8 @@ import meaning
 class Slip(meaning.Evaluator):
     """With an upper limit, since some slips run long."""
 
-    def __init__(self, table, path, literals):
-        super().__init__(table, path, literals, 400000)
+    def __init__(self, edition, table, path, literals):
+        super().__init__(edition, table, path, literals, 400000)
 
 
 def tree_slip(change):
@@ -22,9 +22,9 @@ def tree_slip(change):
             return change(self, i, axis, super().axis(i, axis))
 
     class Wrong(Slip):
-        def __init__(self, *inputs):
-            super().__init__(*inputs)
-            self.tree = Tree(inputs[0])
+        def __init__(self, edition, table, *others):
+            super().__init__(edition, table, *others)
+            self.tree = Tree(table, edition)
     return Wrong
 
 
@@ -35,9 +35,9 @@ def test_slip(change):
             return change(self, i, test, axis, super().passes(i, test, axis))
 
     class Wrong(Slip):
-        def __init__(self, *inputs):
-            super().__init__(*inputs)
-            self.tree = Tree(inputs[0])
+        def __init__(self, edition, table, *others):
+            super().__init__(edition, table, *others)
+            self.tree = Tree(table, edition)
     return Wrong
 
 
@@ -356,6 +356,89 @@ class AttributePositions(Slip):
             kept = self.keep(self.rows[p - 1][2], kept)
         return [n for n in kept if n in right]
 
+
+# ---- W-210 ----
+
+def read_as(edition, other):
+    """One edition is read as another."""
+    class Wrong(Slip):
+        def __init__(self, given, *inputs):
+            super().__init__(other if given == edition else given, *inputs)
+    return Wrong
+
+
+def second_in(where):
+    """where(rows, r): whether step r is read in edition 2 whatever the edition."""
+    class Wrong(Slip):
+        def __init__(self, edition, *inputs):
+            super().__init__(edition, *inputs)
+            found = {r for r, row in enumerate(self.rows) if edition == 1 and row[0] == 24 and where(self.rows, r)}
+            self.editions = [2 if r in found else edition for r in range(len(self.rows))]
+
+        def step(self, link, node):
+            outer = self.tree.edition
+            self.tree.edition = self.editions[link - 1]
+            out = super().step(link, node)
+            self.tree.edition = outer
+            return out
+    return Wrong
+
+
+def in_top_path(rows, r):
+    return r in checker.chain(rows, rows[-1][1])
+
+
+def in_predicates(rows, r):
+    return not in_top_path(rows, r)
+
+
+def held_by(op):
+    """Steps of the paths that rows with this op hold."""
+    def where(rows, r):
+        return any(row[0] == op and r in checker.chain(rows, rows[row[1] - 1][1]) for row in rows)
+    return where
+
+
+def without_counting(rows, r):
+    return not checker.step_counts(rows, r)
+
+
+def on_reverse(rows, r):
+    return rows[r][3] in meaning.REVERSE
+
+
+def first_step(rows, r):
+    return rows[r][1] == 0
+
+
+def later_step(rows, r):
+    return rows[r][1] != 0
+
+
+def first_star(wrong):
+    """wrong(tree, i, axis): where the `*` of edition 1 does not match."""
+    def change(tree, i, test, axis, right):
+        return right and not (tree.edition == 1 and test == 1 and wrong(tree, i, axis))
+    return test_slip(change)
+
+
+def star_but(kind):
+    return first_star(lambda tree, i, axis: tree.kind[i] == kind)
+
+
+def lying_itself(tree, i, axis):
+    """An attribute on its own self and -or-self axes."""
+    return is_attribute(tree, i) and axis != ATTRIBUTE_AXIS
+
+
+def first_names(kind):
+    """In edition 1 names match this kind too, on every axis."""
+    def change(tree, i, test, axis, right):
+        return right or (tree.edition == 1 and tree.kind[i] == kind and test == 16 + tree.name[i])
+    return test_slip(change)
+
+
+# ---- numbers and paths ----
 
 class RoundedPosition(Slip):
     def keep(self, link, nodes):
@@ -690,6 +773,30 @@ def view_of_attribute(table, entries, node):
     return None if right is not None and table[4 * node] == ATTRIBUTE else right
 
 
+# ---- W-210 ----
+
+def refusal_slip(judge):
+    """judge(edition, others): the refusal of what is no edition; others is what
+    edition 2 is refused with, or None."""
+    right = checker_copy().refuse_evaluate
+
+    def refuse(edition, *inputs):
+        if edition in checker.EDITIONS:
+            return right(edition, *inputs)
+        return judge(edition, right(2, *inputs))
+    return refuse
+
+
+def edition_after(*numbers):
+    """These are looked at before 14."""
+    return refusal_slip(lambda edition, others: others if others and others[0] in numbers else (14, edition))
+
+
+def low_edition(bits):
+    """Editions are told by their lowest bits."""
+    return refusal_slip(lambda edition, others: others if edition % (1 << bits) in checker.EDITIONS else (14, edition))
+
+
 def untested_turned(rows):
     """The leading self step tests nothing."""
     right = checker.turned_rows(rows)
@@ -799,6 +906,27 @@ EVALUATORS = {
     "text() matches attributes": test_slip(text_of_attribute),
     "any name matches on axis 11": test_slip(name_as_star),
     "positions count attributes": AttributePositions,
+    "edition 1 read as edition 2": read_as(1, 2),
+    "edition 2 read as edition 1": read_as(2, 1),
+    "edition 1 not in predicates": second_in(in_predicates),
+    "edition 1 not in the top path": second_in(in_top_path),
+    "edition 1 not in truths of paths": second_in(held_by(20)),
+    "edition 1 not in counts": second_in(held_by(21)),
+    "edition 1 not where steps count": second_in(checker.step_counts),
+    "edition 1 only where steps count": second_in(without_counting),
+    "edition 1 not on reverse axes": second_in(on_reverse),
+    "edition 1 not in first steps": second_in(first_step),
+    "edition 1 only in first steps": second_in(later_step),
+    "edition 1: * without the root": star_but(0),
+    "edition 1: * without elements": star_but(1),
+    "edition 1: * without text": star_but(2),
+    "edition 1: * without comments": star_but(3),
+    "edition 1: * without instructions": star_but(4),
+    "edition 1: * without attributes": star_but(ATTRIBUTE),
+    "edition 1: * empty on axis 11": first_star(lambda tree, i, axis: axis == ATTRIBUTE_AXIS),
+    "edition 1: attributes on 11 only": first_star(lying_itself),
+    "edition 1: names of instructions": first_names(4),
+    "edition 1: names of attributes": first_names(ATTRIBUTE),
 }
 
 CHECKERS = {
@@ -868,6 +996,19 @@ CHECKERS = {
     "view an entry further on": dict(view=moved_view),
     "depth 7 at most": dict(MAX_DEPTH=7),
     "depth 9 allowed": dict(MAX_DEPTH=9),
+    "edition 3 accepted": dict(EDITIONS=(1, 2, 3)),
+    "edition 0 accepted": dict(EDITIONS=(0, 1, 2)),
+    "edition 1 refused": dict(EDITIONS=(2,)),
+    "every edition accepted": dict(refuse_evaluate=refusal_slip(lambda edition, others: others)),
+    "editions told in 8 bits": dict(refuse_evaluate=low_edition(8)),
+    "editions told in 16 bits": dict(refuse_evaluate=low_edition(16)),
+    "editions told in 31 bits": dict(refuse_evaluate=low_edition(31)),
+    "14 after number 1": dict(refuse_evaluate=edition_after(1)),
+    "14 after the table's numbers": dict(refuse_evaluate=edition_after(1, 2)),
+    "14 after the path's numbers": dict(refuse_evaluate=edition_after(3, 4, 5, 6)),
+    "14 after number 7": dict(refuse_evaluate=edition_after(7)),
+    "14 after all other checks": dict(refuse_evaluate=edition_after(*range(1, 8))),
+    "14 has no place": dict(refuse_evaluate=refusal_slip(lambda edition, others: (14, 0))),
     "tests up to 65,552": dict(test_allowed=lambda t: t <= 4 or 17 <= t <= 65552),
     "test 16 allowed": dict(test_allowed=lambda t: t <= 4 or 16 <= t <= 65551),
 }

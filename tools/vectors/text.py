@@ -1,7 +1,8 @@
 # The XPath text of a path given as rows. Literals are written so that every
 # engine reads exactly the double that is meant: short ones in decimal, others
 # as an exact product or quotient of whole numbers. A name k is ek on every axis,
-# as elements and attributes are named in the documents.
+# as elements and attributes are named in the documents. The `*` of edition 1 is
+# node(), but on the attribute axis, where `*` is any attribute in both editions.
 from fractions import Fraction
 
 import meaning
@@ -39,7 +40,8 @@ def literal_text(value):
 
 
 class Writer:
-    def __init__(self, path, literals):
+    def __init__(self, edition, path, literals):
+        self.edition = edition
         self.rows = [path[i:i + 5] for i in range(0, len(path), 5)]
         self.values = [meaning.literal_value(b) for b in literals]
 
@@ -60,9 +62,13 @@ class Writer:
 
     def step(self, link):
         _, _, last, axis, test = self.rows[link - 1]
-        test_text = TESTS[test] if test <= 4 else "e%d" % (test - 16)
         predicates = "".join(self.predicate(p) for p in self.chain(last))
-        return AXES[axis] + "::" + test_text + predicates
+        return AXES[axis] + "::" + self.test(test, axis) + predicates
+
+    def test(self, test, axis):
+        if test == 1 and self.edition == 1 and axis != meaning.ATTRIBUTE_AXIS:
+            return "node()"
+        return TESTS[test] if test <= 4 else "e%d" % (test - 16)
 
     def predicate(self, link):
         inner = self.rows[link - 1][2]
@@ -92,5 +98,5 @@ class Writer:
         return "(" + self.value(a) + " " + SIGNS[op] + " " + self.value(b) + ")"
 
 
-def path_text(path, literals):
-    return Writer(path, literals).whole()
+def path_text(edition, path, literals):
+    return Writer(edition, path, literals).whole()
