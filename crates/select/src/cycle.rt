@@ -118,15 +118,8 @@ fn keep(
         return n;
     }
     let row = link - 1;
-    let k = keep(
-        edition,
-        table,
-        path,
-        literals,
-        first_link(path, row),
-        list,
-        n,
-    );
+    let before = first_link(path, row);
+    let k = keep(edition, table, path, literals, before, list, n);
     let test = second_link(path, row);
     let size = float_of(k);
     let mut m = 0;

@@ -17,11 +17,11 @@ use Rattle.select.proofs.cycle.+back+decide+decide_back+decide_each+dec
 use Rattle.select.proofs.cycle.+back+decide+decide_back+decide_each+decide_not+decide_pair+decide_path+expression+keep+narrow+select+spread+step+step_back+stride+tally+thin+walk.Proof.Shared.{keep-at as given, keep-calls as calls}
 
 abbrev pub Inv-loop : lts.InvT-loop
-Inv-loop edition table path literals link list₀ n row k test size m₀ i₀ list m i =
+Inv-loop edition table path literals link list₀ n row before k test size m₀ i₀ list m i =
     (m ≤ i) × (i ≤ k) × (length list ≡ mostRows) × Kept (keptBy edition table literals path test k) k list₀ list m i
 
 abbrev pub μ-loop : lts.MeasureT-loop
-μ-loop edition table path literals link list₀ n row k test size m₀ i₀ list m i = k - i
+μ-loop edition table path literals link list₀ n row before k test size m₀ i₀ list m i = k - i
 
 module _ (t : ℕ) where
   pub returns : lts.Need-returns (calls t) (given t) reads.Post Inv-loop μ-loop
