@@ -95,9 +95,9 @@ extern "C" {
 
 /* The numbers given back. Checks run in the order of this list (14 and 13 came
  * later: 14 stands before all others, 13 between 9 and 10, for all steps are
- * looked at for 9 before any is for 13), but for the reader and the writer of table files, which say their own,
- * and the first that applies is returned; *place is always written and means
- * what the comment says. */
+ * looked at for 9 before any is for 13), but for the reader and the writer of
+ * table files, which say their own, and the first that applies is returned;
+ * *place is always written and means what the comment says. */
 enum {
     BT_DONE = 0,          /* done: nodes or rows written (checkers: row count;
                              files: numbers or bytes written) */
@@ -159,11 +159,11 @@ uint32_t bt_check_path(const uint32_t *path, size_t path_len,
 
 /* Selects the nodes of a path, in an edition, from the node start (which must be
  * a row even if the path is absolute).
- * Returns 14 or 0 to 8, 14 checked first. On 0 the selected row numbers stand in ascending order in
- * out[0 .. *place - 1] and the rest of out is unchanged. On every other number
- * out is unchanged; on 8, *place says how much room is needed. A room of
- * as many numbers as the table has rows is always enough; selecting nothing
- * into no room is 0. */
+ * Returns 14 or 0 to 8, 14 checked first. On 0 the selected row numbers stand in
+ * ascending order in out[0 .. *place - 1] and the rest of out is unchanged. On
+ * every other number out is unchanged; on 8, *place says how much room is
+ * needed. A room of as many numbers as the table has rows is always enough;
+ * selecting nothing into no room is 0. */
 uint32_t bt_evaluate(uint32_t edition,
                      const uint32_t *table, size_t table_len,
                      const uint32_t *path, size_t path_len,
@@ -173,8 +173,8 @@ uint32_t bt_evaluate(uint32_t edition,
 
 /* Turns a relative path round: x is selected from y by the turned path exactly
  * if y is selected from x by the path, in each edition, on every accepted table,
- * for nodes x and y that are no attributes. Paths in predicates may have steps on the attribute
- * axis; a step of the path itself may not (13).
+ * for nodes x and y that are no attributes. Paths in predicates may have steps
+ * on the attribute axis; a step of the path itself may not (13).
  * Returns 0, 3 to 6, 9, 13, 10 or 11, checked in this order. On 0 the *place
  * rows of the turned path stand in out[0 .. 5 * *place - 1], to be used with
  * the same literals, and the rest of out is unchanged. On every other number
