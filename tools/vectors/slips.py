@@ -359,12 +359,10 @@ class AttributePositions(Slip):
 
 # ---- W-210 ----
 
-def read_as(edition, other):
-    """One edition is read as another."""
-    class Wrong(Slip):
-        def __init__(self, given, *inputs):
-            super().__init__(other if given == edition else given, *inputs)
-    return Wrong
+class FirstAsSecond(Slip):
+    """Edition 1 is read as edition 2."""
+    def __init__(self, edition, *inputs):
+        super().__init__(2, *inputs)
 
 
 def second_in(where):
@@ -906,8 +904,7 @@ EVALUATORS = {
     "text() matches attributes": test_slip(text_of_attribute),
     "any name matches on axis 11": test_slip(name_as_star),
     "positions count attributes": AttributePositions,
-    "edition 1 read as edition 2": read_as(1, 2),
-    "edition 2 read as edition 1": read_as(2, 1),
+    "edition 1 read as edition 2": FirstAsSecond,
     "edition 1 not in predicates": second_in(in_predicates),
     "edition 1 not in the top path": second_in(in_top_path),
     "edition 1 not in truths of paths": second_in(held_by(20)),
