@@ -8,7 +8,7 @@
  * Link with libcapi.a (made by `rt staticlib capi`) on x86-64 Linux, and with
  * -lm.
  *
- * A node table is 4 numbers a row, 1 to 4,096 rows, in document order:
+ * A node table is 4 numbers a row, 1 to 8,192 rows, in document order:
  *   kind    0 root (row 0 only), 1 element, 2 text, 3 comment,
  *           4 processing instruction, 5 attribute
  *   name    1 to 65,535 for kinds 1, 4 and 5, otherwise 0
@@ -25,7 +25,7 @@
  * A table file is a node table as text, in memory that the caller lends: lines
  * key=value, each ended by one line feed, exactly these in this order:
  *   edition=1
- *   nodes=  the number of rows, 1 to 4,096
+ *   nodes=  the number of rows, 1 to 8,192
  *   kind=, name=, parent=, size=  a line each, for each row
  * A value is a decimal up to 4,294,967,295 without leading zeros, sign or space.
  * Reading what was written gives the same table, and writing what was read the
@@ -102,7 +102,7 @@ enum {
     BT_DONE = 0,          /* done: nodes or rows written (checkers: row count;
                              files: numbers or bytes written) */
     BT_EDITION = 14,      /* the edition is neither 1 nor 2: the edition */
-    BT_TABLE_LENGTH = 1,  /* table length not 4 to 16,384 or not a multiple of 4: 0 */
+    BT_TABLE_LENGTH = 1,  /* table length not 4 to 32,768 or not a multiple of 4: 0 */
     BT_TABLE_ROW = 2,     /* broken table row: the lowest one */
     BT_PATH_LENGTH = 3,   /* path length not 5 to 1,280 or not a multiple of 5: 0 */
     BT_LITERAL = 4,       /* bad literal: the lowest bad index; 64 if the first 64
@@ -133,7 +133,7 @@ enum {
 
 /* The largest table, path, literal list and nesting that are accepted. */
 enum {
-    BT_MAX_TABLE_ROWS = 4096,
+    BT_MAX_TABLE_ROWS = 8192,
     BT_MAX_PATH_ROWS = 256,
     BT_MAX_LITERALS = 64,
     BT_MAX_DEPTH = 8
@@ -201,7 +201,7 @@ void bt_view(const uint32_t *table, size_t table_len,
  * the file's nodes (0 and 21), the lowest broken row (2), the first bad line's
  * number from 1 (20). A line that is missing has the number that it would have,
  * and the first of those too many is bad; so are a nodes line outside 1 to
- * 4,096 and bytes behind the last line feed. */
+ * 8,192 and bytes behind the last line feed. */
 uint32_t bt_read_table(const uint8_t *file, size_t file_len,
                        uint32_t *out, size_t out_len, uint64_t *place);
 

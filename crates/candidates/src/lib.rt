@@ -29,7 +29,7 @@ pub fn list_candidates(
     axis: usize,
     test: usize,
     x: usize,
-    list: &mut [u32],
+    list: &mut [u16],
 ) -> usize
     requires { ⌜ (rows (now table) ≤ mostRows) × (x < 4294967296) × (rows (now table) ≤ length (now list)) ⌝ }
     ensures { λ r. ⌜ (take r (now (list .exit)) ≡ candidates edition (now (table .entry)) (axisOf axis) (testOf test) x) × (r ≤ rows (now (table .entry))) ⌝ }
@@ -43,7 +43,7 @@ pub fn list_candidates(
 }
 
 // Those of any axis: each row is asked, in the order of the axis.
-fn list_by_scan(table: &[u32], axis: usize, test: usize, x: usize, list: &mut [u32]) -> usize
+fn list_by_scan(table: &[u32], axis: usize, test: usize, x: usize, list: &mut [u16]) -> usize
     requires { ⌜ (rows (now table) ≤ mostRows) × (x < 4294967296) × (rows (now table) ≤ length (now list)) ⌝ }
     ensures { λ r. ⌜ (take r (now (list .exit)) ≡ candidates 2 (now (table .entry)) (axisOf axis) (testOf test) x) × (r ≤ rows (now (table .entry))) ⌝ }
 {
@@ -55,7 +55,7 @@ fn list_by_scan(table: &[u32], axis: usize, test: usize, x: usize, list: &mut [u
     while i < n {
         let y = nth(reverse, n, i);
         if both(holds(table, axis, x, y), passes_test(table, kind, test, y)) {
-            list[m] = y as u32;
+            list[m] = y as u16;
             m += 1;
         }
         i += 1;
@@ -64,7 +64,7 @@ fn list_by_scan(table: &[u32], axis: usize, test: usize, x: usize, list: &mut [u
 }
 
 // Those of the descendant axis: the rows after x in its subtree.
-fn list_descendants(table: &[u32], test: usize, x: usize, list: &mut [u32]) -> usize
+fn list_descendants(table: &[u32], test: usize, x: usize, list: &mut [u16]) -> usize
     requires { ⌜ (rows (now table) ≤ mostRows) × (x < 4294967296) × (rows (now table) ≤ length (now list)) ⌝ }
     ensures { λ r. ⌜ (take r (now (list .exit)) ≡ candidates 2 (now (table .entry)) descendant (testOf test) x) × (r ≤ rows (now (table .entry))) ⌝ }
 {
@@ -73,7 +73,7 @@ fn list_descendants(table: &[u32], test: usize, x: usize, list: &mut [u32]) -> u
 }
 
 // Those of the descendant-or-self axis: the same, and x before them.
-fn list_subtree(table: &[u32], test: usize, x: usize, list: &mut [u32]) -> usize
+fn list_subtree(table: &[u32], test: usize, x: usize, list: &mut [u16]) -> usize
     requires { ⌜ (rows (now table) ≤ mostRows) × (x < 4294967296) × (rows (now table) ≤ length (now list)) ⌝ }
     ensures { λ r. ⌜ (take r (now (list .exit)) ≡ candidates 2 (now (table .entry)) descendant-or-self (testOf test) x) × (r ≤ rows (now (table .entry))) ⌝ }
 {
@@ -101,7 +101,7 @@ fn list_range(
     test: usize,
     from: usize,
     to: usize,
-    list: &mut [u32],
+    list: &mut [u16],
 ) -> usize
     requires { ⌜ (rows (now table) ≤ mostRows) × (to ≤ rows (now table)) × (rows (now table) ≤ length (now list)) ⌝ }
     ensures { λ r. ⌜ (take r (now (list .exit)) ≡ keep (λ y. ownOrPlain (now (table .entry)) x y && passes 2 (now (table .entry)) 1 (testOf test) y) (range (rows (now (table .entry))) from to)) × (r ≤ rows (now (table .entry))) ⌝ }
@@ -111,7 +111,7 @@ fn list_range(
     while y < to {
         let on_axis = either(same(x, y), !is_attribute(table, y));
         if both(on_axis, passes_test(table, 1, test, y)) {
-            list[m] = y as u32;
+            list[m] = y as u16;
             m += 1;
         }
         y += 1;

@@ -8,6 +8,7 @@ use select::evaluate;
 use table_check::check_table;
 use turn::turn;
 use view::ends_of;
+ghost use Rattle.meaning.specs.Table.{mostRows};
 ghost use Rattle.meaning.specs.Answers.{answer};
 ghost use Rattle.meaning.specs.View.{partFrom};
 ghost use Rattle.meaning.specs.Promises.{ChecksTable, AnswersPlace, ChecksPath, EvaluatesPath, TurnsPath, FindsPart};
@@ -83,7 +84,7 @@ pub extern "C" fn bt_view(
 
 #[no_mangle]
 pub extern "C" fn bt_read_table(file: &[u8], out: &mut [u32], place: &mut u64) -> u32
-    ensures { λ r. ⌜ ReadsTable (now (file .entry)) (now (out .entry)) (answer r (now (place .exit))) (now (out .exit)) ⌝ }
+    ensures { λ r. ⌜ ReadsTable mostRows (now (file .entry)) (now (out .entry)) (answer r (now (place .exit))) (now (out .exit)) ⌝ }
 {
     let answer = read_table(file, out);
     *place = answer.place;

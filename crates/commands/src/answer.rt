@@ -1,6 +1,8 @@
 // The answers: each calls a public function of the library and writes what it gave as a line.
 use crate::show::Unit;
 use crate::show::write_answer;
+use crate::show::write_library_limit;
+use crate::show::write_own_limit;
 use crate::show::write_part;
 use crate::show::write_place;
 use basics::WideAnswer;
@@ -14,6 +16,10 @@ use lines::read::number_at;
 use lines::read::read_numbers;
 use lines::read::small;
 use meaning::Answer;
+use meaning::MOST_ROWS;
+
+// The programs hold tables of so many rows; the library takes more.
+pub const MOST_HELD: usize = 4096;
 
 // The most entries of an output slice or of a list.
 const MOST_ENTRIES: usize = 4200;
@@ -26,6 +32,19 @@ fn widened(answer: Answer) -> WideAnswer {
 pub fn answer_check_table(line: &[u8], table: &[u32]) {
     let answer = table_check::check_table(table);
     write_answer(line, widened(answer), Unit::Row, 0, front(table, 0));
+}
+
+// A question about a table that is not held: which limit its length is above. Above its own the library is asked: it looks at the length
+// alone, so any numbers do.
+pub fn answer_limit(line: &[u8], length: usize) {
+    if length <= 4 * MOST_ROWS {
+        write_own_limit(line, MOST_HELD);
+        return;
+    }
+    let space = [0u32; 4 * MOST_ROWS + 4];
+    let lent: &[u32] = &space;
+    let answer = table_check::check_table(front(lent, length));
+    write_library_limit(line, widened(answer), MOST_ROWS);
 }
 
 pub fn answer_check_path(line: &[u8], path: &[u32], literals: &[f64]) {

@@ -3,9 +3,11 @@
 mod answer;
 mod show;
 
+use answer::MOST_HELD;
 use answer::answer_check_path;
 use answer::answer_check_table;
 use answer::answer_evaluate;
+use answer::answer_limit;
 use answer::answer_place;
 use answer::answer_read_table;
 use answer::answer_turn;
@@ -16,15 +18,17 @@ use lines::output::copy;
 use lines::output::front;
 use lines::output::written;
 use lines::read::behind;
+use lines::read::count_of;
 use lines::read::from;
 use lines::read::is_word;
 use lines::read::line_end;
+use lines::read::number_at;
 use lines::read::read_file;
 use lines::read::read_literals;
 use lines::read::read_numbers;
 use show::write_title;
 
-// The commands that there are.
+// The commands that there are; a question about a table that is not held becomes one about its length.
 enum Command {
     Title,
     Table,
@@ -41,6 +45,7 @@ enum Command {
     View,
     ReadTable,
     WriteTable,
+    Limit(usize),
     Unknown,
 }
 
@@ -101,7 +106,7 @@ fn question_of(line: &[u8]) -> Command {
 // Room for what a line may set.
 const MOST_TEXT: usize = 2097152;
 
-const MOST_TABLE: usize = 16400;
+const MOST_TABLE: usize = 4 * MOST_HELD;
 
 const MOST_PATH: usize = 1300;
 
@@ -109,7 +114,7 @@ const MOST_LITERALS: usize = 66;
 
 const MOST_FILE: usize = 4200;
 
-// The lengths of the current table, path, literals and file.
+// The lengths of the current table, path, literals and file. A table that is not held has its length all the same.
 struct Lengths {
     table: usize,
     path: usize,
@@ -142,6 +147,28 @@ fn take_filed(file: &[u8], table: &mut [u32]) -> usize {
     written(answer.number, answer.place as usize)
 }
 
+// Sets the table; gives its length, also where there is room for less. No line has more than a text.
+fn take_table(line: &[u8], at: usize, table: &mut [u32]) -> usize {
+    let length = number_at(line, at);
+    read_numbers(line, at, table);
+    count_of(length.value, MOST_TEXT)
+}
+
+// The command, or where it asks of a table that is not held, what is asked instead.
+fn answerable(command: Command, length: usize) -> Command {
+    if length <= MOST_TABLE {
+        return command;
+    }
+    match command {
+        Command::CheckTable => Command::Limit(length),
+        Command::Place => Command::Limit(length),
+        Command::Evaluate => Command::Limit(length),
+        Command::View => Command::Limit(length),
+        Command::WriteTable => Command::Limit(length),
+        _ => command,
+    }
+}
+
 // A line that asks: it is answered. A title is written as it is.
 fn answer_line(
     line: &[u8],
@@ -162,6 +189,7 @@ fn answer_line(
         Command::View => answer_view(line, at, table),
         Command::ReadTable => answer_read_table(line, at, file),
         Command::WriteTable => answer_write_table(line, at, table),
+        Command::Limit(length) => answer_limit(line, length),
         _ => {}
     }
 }
@@ -177,9 +205,9 @@ fn run_line(
 ) -> Lengths {
     let mut next = lengths;
     let at = behind(line, b' ');
-    let command = command_of(line);
+    let command = answerable(command_of(line), lengths.table);
     match command {
-        Command::Table => next.table = read_numbers(line, at, table),
+        Command::Table => next.table = take_table(line, at, table),
         Command::Path => next.path = read_numbers(line, at, path),
         Command::Literals => next.literals = read_literals(line, at, literals),
         Command::File => next.file = read_file(from(line, at), file),

@@ -158,6 +158,22 @@ fn put_bare(out: &mut [u8], used: usize, answer: WideAnswer, entries: &[u32]) ->
     put_numbers(out, end, entries)
 }
 
+// The name of a line, if it has one, and the answer: in words behind a name, else bare.
+fn put_answer(
+    out: &mut [u8],
+    line: &[u8],
+    answer: WideAnswer,
+    unit: Unit,
+    entries: &[u32],
+) -> usize {
+    let name = name_of(line);
+    let used = put_name(out, name);
+    if name.len() == 0 {
+        return put_bare(out, used, answer, entries);
+    }
+    put_words(out, used, answer, unit, entries)
+}
+
 // What the call may not write: all of its output where it refused, else what lies behind the entries that it wrote.
 fn put_rest(out: &mut [u8], used: usize, told: bool, count: usize, output: &[u32]) -> usize {
     if is_changed(output, count) {
@@ -174,16 +190,29 @@ pub fn write_answer(line: &[u8], answer: WideAnswer, unit: Unit, numbers: usize,
     let mut space = io::large_buffer();
     let out: &mut [u8] = &mut space;
     let count = written(answer.number, numbers);
-    let entries = front(output, count);
-    let name = name_of(line);
-    let mut used = put_name(out, name);
-    if name.len() == 0 {
-        used = put_bare(out, used, answer, entries);
-    } else {
-        used = put_words(out, used, answer, unit, entries);
-    }
-    let told = name.len() != 0 && answer.number != 0;
+    let mut used = put_answer(out, line, answer, unit, front(output, count));
+    let told = name_of(line).len() != 0 && answer.number != 0;
     used = put_rest(out, used, told, count, output);
+    write_line(out, used);
+}
+
+// The program's own limit, which a table is above.
+pub fn write_own_limit(line: &[u8], most: usize) {
+    let mut space = io::large_buffer();
+    let out: &mut [u8] = &mut space;
+    let mut used = put_name(out, name_of(line));
+    used = put_text(out, used, b"the program's limit: ");
+    used = put_count(out, used, most as u64, Unit::Row);
+    write_line(out, used);
+}
+
+// The library's limit, which a table is above, behind what the library answered.
+pub fn write_library_limit(line: &[u8], answer: WideAnswer, most: usize) {
+    let mut space = io::large_buffer();
+    let out: &mut [u8] = &mut space;
+    let mut used = put_answer(out, line, answer, Unit::Row, &[]);
+    used = put_text(out, used, b", the library's limit: ");
+    used = put_count(out, used, most as u64, Unit::Row);
     write_line(out, used);
 }
 

@@ -6,7 +6,7 @@ use Prim.Native.String.{String}
 use mathlib.Core.Path.{_≡_, refl}
 use mathlib.Core.List.{List, [], _∷_, map}
 use Rattle.meaning.specs.Lists.{upTo, some, lowest}
-use Rattle.meaning.specs.Table.{lengthAllowed, hasElement, goodRoot, goodName, goodSize, nearest, goodParent, textOfRoot, elementOfRoot, laterElement, previousSibling, textAfterText, goodRow, broken, strayAttribute, attributeAgain, amongAttributes, sameAttribute}
+use Rattle.meaning.specs.Table.{lengthWithin, hasElement, goodRoot, goodName, goodSize, nearest, goodParent, textOfRoot, elementOfRoot, laterElement, previousSibling, textAfterText, goodRow, broken, strayAttribute, attributeAgain, amongAttributes, sameAttribute}
 use Rattle.meaning.specs.Answers.{answer, tableChecks}
 use Rattle.meaning.specs.declared.Answer.{Answer}
 use Rattle.decimal.specs.Decimal.{ascii, digitsOf, digits, leading, numberFrom, plain, decimalAt}
@@ -42,7 +42,7 @@ cases =
     ∷ case "edition=1\r\nnodes=2\r\nkind=0\r\nname=0\r\nparent=0\r\nsize=1\r\nkind=1\r\nname=1\r\nparent=0\r\nsize=0\r\n" 8 20 1
     ∷ case "" 8 20 1
     ∷ case "edition=1\nnodes=0\nkind=0\nname=0\nparent=0\nsize=1\nkind=1\nname=1\nparent=0\nsize=0\n" 8 20 2
-    ∷ case "edition=1\nnodes=4097\nkind=0\nname=0\nparent=0\nsize=1\nkind=1\nname=1\nparent=0\nsize=0\n" 8 20 2
+    ∷ case "edition=1\nnodes=8193\nkind=0\nname=0\nparent=0\nsize=1\nkind=1\nname=1\nparent=0\nsize=0\n" 8 20 2
     ∷ case "edition=1\nnodes=4294967298\nkind=0\nname=0\nparent=0\nsize=1\nkind=1\nname=1\nparent=0\nsize=0\n" 8 20 2
     ∷ case "edition=1\nnodes=2\nkind=4294967296\nname=0\nparent=0\nsize=1\nkind=1\nname=1\nparent=0\nsize=0\n" 8 20 3
     ∷ case "edition=1\nnodes=2\nkind=18446744073709551616\nname=0\nparent=0\nsize=1\nkind=1\nname=1\nparent=0\nsize=0\n" 8 20 3
@@ -67,5 +67,5 @@ cases =
 
 -- the definitions give what the documents list
 pub files-of-the-readings : map given cases ≡ map listed cases
-unfolding reading formOf fromHead headOf counted numbersFrom onwards lineAt ended begins decimalAt leading numberFrom plain key tableChecks lengthAllowed some upTo lowest broken goodRoot hasElement goodRow goodName goodSize goodParent nearest textOfRoot laterElement elementOfRoot textAfterText previousSibling strayAttribute attributeAgain amongAttributes sameAttribute
+unfolding reading formOf fromHead headOf counted numbersFrom onwards lineAt ended begins decimalAt leading numberFrom plain key tableChecks lengthWithin some upTo lowest broken goodRoot hasElement goodRow goodName goodSize goodParent nearest textOfRoot laterElement elementOfRoot textAfterText previousSibling strayAttribute attributeAgain amongAttributes sameAttribute
 files-of-the-readings = refl

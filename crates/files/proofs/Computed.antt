@@ -93,18 +93,18 @@ numbersFrom zero file at i t = cond (ltb at (length file)) (bad (i + 3)) (good t
 numbersFrom (suc k) file at i t =
     onwards (bad (i + 3)) (λ n next. numbersFrom k file next (i + 1) (set t i n)) (lineAt (ascii (key i) ++ ascii "=") file at)
 
-numbers-from : (k : ℕ) (file : List ℕ) (at i : ℕ) (t : List ℕ) → i + k ≡ length t → Passed file at i t → HasForm file (numbersFrom k file at i t)
+numbers-from : (k : ℕ) (file : List ℕ) (at i : ℕ) (t : List ℕ) → i + k ≡ length t → Passed file at i t → HasForm mostRows file (numbersFrom k file at i t)
 unfolding numbersFrom onwards LineAt line
 numbers-from zero file at i t e p = by (ltb at (length file)) refl
   where
-    by : (x : Bool) → ltb at (length file) ≡ x → HasForm file (cond x (bad (i + 3)) (good t))
+    by : (x : Bool) → ltb at (length file) ≡ x → HasForm mostRows file (cond x (bad (i + 3)) (good t))
     by true l = bad-last file at i t p (omega arith) (ltb-true at (length file) l)
     by false l = good-file file at i t p (omega arith) (ltb-false at (length file) l)
 numbers-from (suc k) file at i t e p =
     go (λ n next. numbers-from k file next (i + 1) (set t i n)) (lineAt (ascii (key i) ++ ascii "=") file at) (line-at (ascii (key i) ++ ascii "=") file at)
   where
-    go : ((n next : ℕ) → i + 1 + k ≡ length (set t i n) → Passed file next (i + 1) (set t i n) → HasForm file (numbersFrom k file next (i + 1) (set t i n)))
-        → (d : Decimal) → LineAt (ascii (key i) ++ ascii "=") file at d → HasForm file (onwards (bad (i + 3)) (λ n next. numbersFrom k file next (i + 1) (set t i n)) d)
+    go : ((n next : ℕ) → i + 1 + k ≡ length (set t i n) → Passed file next (i + 1) (set t i n) → HasForm mostRows file (numbersFrom k file next (i + 1) (set t i n)))
+        → (d : Decimal) → LineAt (ascii (key i) ++ ascii "=") file at d → HasForm mostRows file (onwards (bad (i + 3)) (λ n next. numbersFrom k file next (i + 1) (set t i n)) d)
     go more Nothing l = bad-number file at i t p (omega arith) l
     go more (Number n next) l = more n next (rw length-set (omega arith)) (passed-more file at i t p n next (omega arith) l)
 
@@ -122,11 +122,11 @@ unfoldable pub formOf : List ℕ → Form
 formOf file = fromHead file (headOf file)
 
 -- EVERY FILE HAS A FORM, which is this one
-pub form-of : (file : List ℕ) → HasForm file (formOf file)
+pub form-of : (file : List ℕ) → HasForm mostRows file (formOf file)
 unfolding formOf fromHead
 form-of file = by (headOf file) (head-of file)
   where
-    by : (h : Head) → HeadOf file h → HasForm file (fromHead file h)
+    by : (h : Head) → HeadOf file h → HasForm mostRows file (fromHead file h)
     by (Bad k) h = head-bad file k h
     by (Rows n at) h =
         let l : length (zeros n) ≡ 4 * n = length-replicate {A = ℕ} (4 * n) 0 in
@@ -134,8 +134,8 @@ form-of file = by (headOf file) (head-of file)
         (passed-none file at n (zeros n) h l (λ i k. let e : getD (zeros n) i 0 ≡ 0 = getD-replicate {A = ℕ} (4 * n) i 0 0 (omega arith) in omega arith))
 
 -- SO THE READER'S PROMISE IS AN EQUATION
-pub read-computed : (file out : List ℕ) (r : Answer) (out' : List ℕ) → ReadsTable file out r out'
+pub read-computed : (file out : List ℕ) (r : Answer) (out' : List ℕ) → ReadsTable mostRows file out r out'
     → (r ≡ reading (formOf file) (length out)) × (out' ≡ output r (rowsIn (formOf file)) out)
 read-computed file out r out' (form, h, e, w) =
-    let s : form ≡ formOf file = form-unique file form (formOf file) h (form-of file) in
+    let s : form ≡ formOf file = form-unique mostRows file form (formOf file) h (form-of file) in
     (rw s at e, rw s at w)

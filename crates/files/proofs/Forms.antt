@@ -1,6 +1,6 @@
 -- Laws of forms: which rows a file can hold, when a line is the first bad one, and that a file has one form.
 -- Assumes nothing.
-use Prim.Native.Nat.{ℕ, zero, suc, _+_, _*_, _%_, _<_, _≤_}
+use Prim.Native.Nat.{ℕ, zero, suc, _+_, _*_, _<_, _≤_}
 use native.Mathlib.Omega.{arith}
 use native.Mathlib.Numerals.{add-one}
 use mathlib.Core.Path.{_≡_, refl, sym, ap, _∙_}
@@ -9,10 +9,11 @@ use mathlib.Core.Bool.{false, not}
 use mathlib.Core.List.{List, [], _∷_, _++_, append-nil}
 use lib.ListN.{length, getD, take, drop, take-append-drop, drop-of-length-le, length-drop}
 use lib.Seq.{take-at, drop-at, take-append-le, take-take, drop-cons, length-take-le}
-use lib.Dec.{T, ltb, leb, eqb, leb→le, eqb→eq}
-use borrow.Author.Tests.{ltb-false, le-ltb}
+use lib.Dec.{T, ltb}
+use borrow.Author.Tests.{ltb-false, le-ltb, le-leb}
 use Rattle.meaning.specs.Lists.{some}
-use Rattle.meaning.specs.Table.{rows, mostRows, lengthAllowed}
+use Rattle.meaning.specs.Table.{rows, mostRows, lengthWithin}
+use Rattle.meaning.proofs.Tables.{length-within}
 use Rattle.meaning.proofs.Bools.{and-l, and-r, and-i, or-none-l, or-none-r, not-e, is-false, lt-or-ge}
 use Rattle.decimal.specs.Decimal.{ascii, mostNumber}
 use Rattle.files.specs.Files.{line, key, numberLines, tableLines, joined, bytesOf, linesOf, holdable, Form, good, bad, Opens, HasForm}
@@ -21,27 +22,17 @@ use Rattle.files.proofs.Lines.{keyed-number, lines-line, lines-before, 
 
 -- ---- rows that a file can hold
 
--- how many numbers and rows are allowed
-pub allowed-rows : (t : List ℕ) → T (lengthAllowed t) → (length t ≡ 4 * rows t) × (0 < rows t) × (rows t ≤ mostRows)
-unfolding lengthAllowed
-allowed-rows t l =
-    let a : T (eqb (length t % 4) 0) = search (and-l, and-r) in
-    let b : T (leb 1 (rows t)) = search (and-l, and-r) in
-    let c : T (leb (rows t) mostRows) = search (and-l, and-r) in
-    let e : length t % 4 ≡ 0 = eqb→eq (length t % 4) 0 a in
-    (omega arith, leb→le 1 (rows t) b, leb→le (rows t) mostRows c)
-
-module _ (t : List ℕ) (h : T (holdable t)) where
-  pub holdable-length : T (lengthAllowed t)
+module _ (most : ℕ) (t : List ℕ) (h : T (holdable most t)) where
+  pub holdable-length : T (lengthWithin most t)
   unfolding holdable
-  holdable-length = and-l (lengthAllowed t) (not (some (ltb mostNumber) t)) h
+  holdable-length = and-l (lengthWithin most t) (not (some (ltb mostNumber) t)) h
 
   pub holdable-none : some (ltb mostNumber) t ≡ false
   unfolding holdable
-  holdable-none = is-false (some (ltb mostNumber) t) (not-e (some (ltb mostNumber) t) (and-r (lengthAllowed t) (not (some (ltb mostNumber) t)) h))
+  holdable-none = is-false (some (ltb mostNumber) t) (not-e (some (ltb mostNumber) t) (and-r (lengthWithin most t) (not (some (ltb mostNumber) t)) h))
 
-  pub holdable-rows : (length t ≡ 4 * rows t) × (0 < rows t) × (rows t ≤ mostRows)
-  holdable-rows = allowed-rows t holdable-length
+  pub holdable-rows : (length t ≡ 4 * rows t) × (0 < rows t) × (rows t ≤ most)
+  holdable-rows = length-within most t holdable-length
 
 -- no number is above the largest
 pub none-above : (t : List ℕ) → some (ltb mostNumber) t ≡ false → (i : ℕ) → getD t i 0 ≤ mostNumber
@@ -56,9 +47,9 @@ above-none [] h = refl
 above-none (n ∷ t) h = rw (le-ltb mostNumber n (h 0 (omega arith)), above-none t (λ i l. h (suc i) (omega arith)))
 
 -- rows with a length that is allowed and numbers that fit can be held
-pub holdable-from : (t : List ℕ) → T (lengthAllowed t) → ((i : ℕ) → i < length t → getD t i 0 ≤ mostNumber) → T (holdable t)
+pub holdable-from : (most : ℕ) (t : List ℕ) → T (lengthWithin most t) → ((i : ℕ) → i < length t → getD t i 0 ≤ mostNumber) → T (holdable most t)
 unfolding holdable
-holdable-from t h k = and-i (lengthAllowed t) (not (some (ltb mostNumber) t)) h (rw (above-none t k) tt)
+holdable-from most t h k = and-i (lengthWithin most t) (not (some (ltb mostNumber) t)) h (rw (above-none t k) tt)
 
 -- ---- the first bad line
 
@@ -89,14 +80,14 @@ behind-front k ls = rw add-one (go k ls)
     go (suc k) (l ∷ ls) = go k ls
 
 -- the first k lines open some file, and what follows opens none with them: line k + 1 is the first bad one
-pub parts : (file s : List ℕ) (before : List (List ℕ)) (k : ℕ) → length before ≡ k → linesOf file ≡ before ++ linesOf s
-    → (t : List ℕ) → T (holdable t) → take k (tableLines t) ≡ before
-    → ((t : List ℕ) → T (holdable t) → take k (tableLines t) ≡ before → take 1 (linesOf s) ≡ take 1 (drop k (tableLines t)) → ⊥)
-    → HasForm file (bad (k + 1))
+pub parts : (most : ℕ) (file s : List ℕ) (before : List (List ℕ)) (k : ℕ) → length before ≡ k → linesOf file ≡ before ++ linesOf s
+    → (t : List ℕ) → T (holdable most t) → take k (tableLines t) ≡ before
+    → ((t : List ℕ) → T (holdable most t) → take k (tableLines t) ≡ before → take 1 (linesOf s) ≡ take 1 (drop k (tableLines t)) → ⊥)
+    → HasForm most file (bad (k + 1))
 unfolding HasForm
-parts file s before k n e t h b refuse = (opens, stops)
+parts most file s before k n e t h b refuse = (opens, stops)
   where
-    opens : (j : ℕ) → j < k + 1 → Opens file j
+    opens : (j : ℕ) → j < k + 1 → Opens most file j
     opens j l =
         let a : take j (linesOf file) ≡ take j before = rw e (take-append-le j before (linesOf s) (omega arith)) in
         (t, h, a ∙ ap (λ (ls : List (List ℕ)). take j ls) (sym b) ∙ take-take j k (tableLines t) (omega arith))
@@ -107,7 +98,7 @@ parts file s before k n e t h b refuse = (opens, stops)
     rest : drop k (linesOf file) ≡ linesOf s
     rest = rw e (drop-at before (linesOf s) k n)
 
-    stops : Opens file (k + 1) → ⊥
+    stops : Opens most file (k + 1) → ⊥
     stops (u, g, d) =
         let a : take k (tableLines u) ≡ before =
         sym (take-take k (k + 1) (tableLines u) (omega arith)) ∙ ap (λ (ls : List (List ℕ)). take k ls) (sym d) ∙ take-take k (k + 1) (linesOf file) (omega arith) ∙ front in
@@ -116,26 +107,26 @@ parts file s before k n e t h b refuse = (opens, stops)
         refuse u g a c
 
 -- a root alone can be held: its file opens as every file does
-least : List ℕ
+abbrev pub least : List ℕ
 least = 0 ∷ 0 ∷ 0 ∷ 0 ∷ []
 
-least-holdable : T (holdable least)
-unfolding least holdable lengthAllowed some
-least-holdable = tt
+pub least-holdable : (most : ℕ) → 0 < most → T (holdable most least)
+unfolding holdable lengthWithin some
+least-holdable most h = rw (le-leb 1 most h) tt
 
 -- line 1 is bad where the file does not begin with it
-pub bad-first : (file : List ℕ) → ((rest : List ℕ) → file ≡ line "edition" 1 ++ rest → ⊥) → HasForm file (bad 1)
-bad-first file refuse =
-    parts file file [] 0 refl refl least least-holdable refl (λ t h b e. refuse (joined (drop 1 (linesOf file))) (first-line file (line "edition" 1) e))
+pub bad-first : (most : ℕ) → 0 < most → (file : List ℕ) → ((rest : List ℕ) → file ≡ line "edition" 1 ++ rest → ⊥) → HasForm most file (bad 1)
+bad-first most p file refuse =
+    parts most file file [] 0 refl refl least (least-holdable most p) refl (λ t h b e. refuse (joined (drop 1 (linesOf file))) (first-line file (line "edition" 1) e))
 
 -- line 2 is bad where no count of rows in the limits stands there
-pub bad-second : (file s : List ℕ) → file ≡ line "edition" 1 ++ s
-    → ((n : ℕ) (rest : List ℕ) → 0 < n → n ≤ mostRows → s ≡ line "nodes" n ++ rest → ⊥) → HasForm file (bad 2)
+pub bad-second : (most : ℕ) → 0 < most → (file s : List ℕ) → file ≡ line "edition" 1 ++ s
+    → ((n : ℕ) (rest : List ℕ) → 0 < n → n ≤ most → s ≡ line "nodes" n ++ rest → ⊥) → HasForm most file (bad 2)
 unfolding line some
-bad-second file s e refuse =
-    parts file s (line "edition" 1 ∷ []) 1 refl (rw e (lines-line (ascii "edition=") 1 s refl)) least least-holdable refl
+bad-second most p file s e refuse =
+    parts most file s (line "edition" 1 ∷ []) 1 refl (rw e (lines-line (ascii "edition=") 1 s refl)) least (least-holdable most p) refl
     (λ t h b c.
-    let r = holdable-rows t h in
+    let r = holdable-rows most t h in
     refuse (rows t) (joined (drop 1 (linesOf s))) (r .1) (r .2) (first-line s (line "nodes" (rows t)) c))
 
 -- ---- the lines of numbers
@@ -154,14 +145,14 @@ drop-lines : (i : ℕ) (t : List ℕ) → drop (i + 2) (tableLines t) ≡ number
 drop-lines i t = let e : 0 + i ≡ i = omega arith in rw (two-more i, drop-numbers i 0 t, e)
 
 -- rows whose first lines are the same have the same count
-same-length : (i : ℕ) (t u : List ℕ) → T (holdable t) → T (holdable u) → take (i + 2) (tableLines u) ≡ linesBefore i t → length u ≡ length t
+pub same-length : (most other i : ℕ) (t u : List ℕ) → T (holdable most t) → T (holdable other u) → take (i + 2) (tableLines u) ≡ linesBefore i t → length u ≡ length t
 unfolding line
-same-length i t u h g e =
+same-length most other i t u h g e =
     let k : linesBefore i u ≡ linesBefore i t = sym (take-lines i u) ∙ e in
     let l : line "nodes" (rows u) ≡ line "nodes" (rows t) = cc in
     let n : rows u ≡ rows t = keyed-number (ascii "nodes=") (rows u) (rows t) [] [] (ap (λ (l : List ℕ). l ++ []) l) in
-    let a = holdable-rows t h in
-    let b = holdable-rows u g in
+    let a = holdable-rows most t h in
+    let b = holdable-rows other u g in
     omega arith
 
 module _ (file : List ℕ) (at i : ℕ) (t : List ℕ) (p : Passed file at i t) where
@@ -169,33 +160,33 @@ module _ (file : List ℕ) (at i : ℕ) (t : List ℕ) (p : Passed file at i t) 
   lines-passed = ap linesOf (p .passed) ∙ lines-before i t (drop at file)
 
   -- the line of number i is bad where no number stands there
-  pub bad-number : i < length t → ((n : ℕ) (rest : List ℕ) → n ≤ mostNumber → drop at file ≡ line (key i) n ++ rest → ⊥) → HasForm file (bad (i + 3))
+  pub bad-number : i < length t → ((n : ℕ) (rest : List ℕ) → n ≤ mostNumber → drop at file ≡ line (key i) n ++ rest → ⊥) → HasForm mostRows file (bad (i + 3))
   unfolding numberLines
   bad-number h refuse =
       let e : i + 3 ≡ i + 2 + 1 = omega arith in
       rw e
-      (parts file (drop at file) (linesBefore i t) (i + 2) (length-before i t (omega arith)) lines-passed t (p .holds) (take-lines i t)
+      (parts mostRows file (drop at file) (linesBefore i t) (i + 2) (length-before i t (omega arith)) lines-passed t (p .holds) (take-lines i t)
       (λ u g b c.
-      let l : length u ≡ length t = same-length i t u (p .holds) g b in
+      let l : length u ≡ length t = same-length mostRows mostRows i t u (p .holds) g b in
       let d : take 1 (drop (i + 2) (tableLines u)) ≡ line (key i) (getD u i 0) ∷ [] = rw (drop-lines i u, drop-cons u i 0 (omega arith)) in
-      refuse (getD u i 0) (joined (drop 1 (linesOf (drop at file)))) (none-above u (holdable-none u g) i)
+      refuse (getD u i 0) (joined (drop 1 (linesOf (drop at file)))) (none-above u (holdable-none mostRows u g) i)
       (first-line (drop at file) (line (key i) (getD u i 0)) (c ∙ d))))
 
   -- the line behind those of all numbers is bad where the file goes on
-  pub bad-last : i ≡ length t → at < length file → HasForm file (bad (i + 3))
+  pub bad-last : i ≡ length t → at < length file → HasForm mostRows file (bad (i + 3))
   unfolding numberLines
   bad-last h l =
       let e : i + 3 ≡ i + 2 + 1 = omega arith in
       rw e
-      (parts file (drop at file) (linesBefore i t) (i + 2) (length-before i t (omega arith)) lines-passed t (p .holds) (take-lines i t)
+      (parts mostRows file (drop at file) (linesBefore i t) (i + 2) (length-before i t (omega arith)) lines-passed t (p .holds) (take-lines i t)
       (λ u g b c.
-      let k : length u ≡ length t = same-length i t u (p .holds) g b in
+      let k : length u ≡ length t = same-length mostRows mostRows i t u (p .holds) g b in
       let d : take 1 (drop (i + 2) (tableLines u)) ≡ [] = rw (drop-lines i u, drop-of-length-le u {i = i} (omega arith)) in
       let n : length (drop at file) ≡ 0 = ap length (no-line (drop at file) (c ∙ d)) in
       omega (arith, simp length-drop at n)))
 
   -- and the file is good where it ends there
-  pub good-file : i ≡ length t → length file ≤ at → HasForm file (good t)
+  pub good-file : i ≡ length t → length file ≤ at → HasForm mostRows file (good t)
   unfolding HasForm bytesOf
   good-file h l = (
     p .holds,
@@ -211,14 +202,14 @@ bytes-same t u e =
     numbers-same 0 t u (cc)
 
 -- a good file parts from no line of its own
-good-opens : (file t : List ℕ) (k : ℕ) → HasForm file (good t) → Opens file k
+good-opens : (most : ℕ) (file t : List ℕ) (k : ℕ) → HasForm most file (good t) → Opens most file k
 unfolding HasForm
-good-opens file t k (h, e) = (t, h, ap (λ (ls : List (List ℕ)). take k ls) (ap linesOf e ∙ table-lines t))
+good-opens most file t k (h, e) = (t, h, ap (λ (ls : List (List ℕ)). take k ls) (ap linesOf e ∙ table-lines t))
 
-pub form-unique : (file : List ℕ) (a b : Form) → HasForm file a → HasForm file b → a ≡ b
+pub form-unique : (most : ℕ) (file : List ℕ) (a b : Form) → HasForm most file a → HasForm most file b → a ≡ b
 unfolding HasForm
-form-unique file (good t) (good u) h k = ap good (bytes-same t u (sym (h .1) ∙ k .1))
-form-unique file (good t) (bad k) h (opens, stops) = absurd (stops (good-opens file t k h))
-form-unique file (bad k) (good t) (opens, stops) h = absurd (stops (good-opens file t k h))
-form-unique file (bad j) (bad k) (opens, stops) (opens', stops') =
+form-unique most file (good t) (good u) h k = ap good (bytes-same t u (sym (h .1) ∙ k .1))
+form-unique most file (good t) (bad k) h (opens, stops) = absurd (stops (good-opens most file t k h))
+form-unique most file (bad k) (good t) (opens, stops) h = absurd (stops (good-opens most file t k h))
+form-unique most file (bad j) (bad k) (opens, stops) (opens', stops') =
     ⊎-elim (λ (l : j < k). absurd (stops (opens' j l))) (λ (l : k ≤ j). ⊎-elim (λ (m : k < j). absurd (stops' (opens k m))) (λ (m : j ≤ k). ap bad (omega arith)) (lt-or-ge k j)) (lt-or-ge j k)

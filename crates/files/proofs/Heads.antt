@@ -26,7 +26,7 @@ first = refl
 pub head-first : (file : List ℕ) → begins (ascii "edition=1\n") file ≡ false → HeadOf file (Bad 1)
 unfolding HeadOf
 head-first file b =
-    bad-first file (λ rest e. let k : file ≡ ascii "edition=1\n" ++ rest = rw first at e in true≢false (sym (ap (begins (ascii "edition=1\n")) k ∙ begins-append (ascii "edition=1\n") rest) ∙ b))
+    bad-first mostRows (omega arith) file (λ rest e. let k : file ≡ ascii "edition=1\n" ++ rest = rw first at e in true≢false (sym (ap (begins (ascii "edition=1\n")) k ∙ begins-append (ascii "edition=1\n") rest) ∙ b))
 
 module _ (file : List ℕ) (b : begins (ascii "edition=1\n") file ≡ true) where
   begun : file ≡ line "edition" 1 ++ drop 10 file
@@ -37,13 +37,13 @@ module _ (file : List ℕ) (b : begins (ascii "edition=1\n") file ≡ true) wher
 
   pub head-none : LineAt (ascii "nodes=") file 10 Nothing → HeadOf file (Bad 2)
   unfolding HeadOf LineAt line
-  head-none none = bad-second file (drop 10 file) begun (λ n rest p q e. none n rest (omega arith) e)
+  head-none none = bad-second mostRows (omega arith) file (drop 10 file) begun (λ n rest p q e. none n rest (omega arith) e)
 
   module _ (n next : ℕ) (l : LineAt (ascii "nodes=") file 10 (Number n next)) where
     pub head-outside : (n ≡ 0) ⊎ (mostRows < n) → HeadOf file (Bad 2)
     unfolding HeadOf LineAt line
     head-outside o =
-        bad-second file (drop 10 file) begun (λ m rest p q e.
+        bad-second mostRows (omega arith) file (drop 10 file) begun (λ m rest p q e.
         let k : m ≡ n = keyed-number (ascii "nodes=") m n rest (drop next file) (sym e ∙ l .2) in
         ⊎-elim (λ (z : n ≡ 0). omega arith) (λ (z : mostRows < n). omega arith) o)
 

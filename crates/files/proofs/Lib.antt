@@ -9,4 +9,5 @@ pub mod Outcome
 pub mod Computed
 pub mod Unique
 pub mod RoundTrips
+pub mod Limits
 pub mod Cases

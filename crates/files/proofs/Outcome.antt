@@ -9,7 +9,7 @@ use lib.ListN.{length, drop}
 use lib.Dec.{ltb}
 use borrow.Author.Tests.{lt-ltb, le-ltb, eq-eqb, ne-eqb}
 use Rattle.meaning.specs.Lists.{upTo, some, lowest}
-use Rattle.meaning.specs.Table.{rows, lengthAllowed, broken}
+use Rattle.meaning.specs.Table.{rows, mostRows, lengthAllowed, broken}
 use Rattle.meaning.specs.Answers.{answer, tableAnswer, tableChecks, output}
 use Rattle.meaning.specs.declared.Answer.{Answer}
 use Rattle.meaning.proofs.Bools.{is-true}
@@ -46,11 +46,11 @@ short amount room next h = rw (lt-ltb room amount h)
 -- ---- the reader
 
 -- it never gives 1, since the length of a good file's rows is allowed
-pub reads-no-1 : (file : List ℕ) (form : Form) (room : ℕ) → HasForm file form → reading form room .number ≡ 1 → ⊥
+pub reads-no-1 : (file : List ℕ) (form : Form) (room : ℕ) → HasForm mostRows file form → reading form room .number ≡ 1 → ⊥
 unfolding HasForm reading tableChecks
 reads-no-1 file (bad k) room h e = omega arith
 reads-no-1 file (good t) room h e =
-    let a : lengthAllowed t ≡ true = is-true (lengthAllowed t) (holdable-length t (h .0)) in
+    let a : lengthAllowed t ≡ true = is-true (lengthAllowed t) (holdable-length mostRows t (h .0)) in
     go (ltb room (length t)) (some (broken t) (upTo (rows t))) (rw a at e)
   where
     go : (x y : Bool) → cond x (answer 21 (length t)) (cond y (answer 2 (lowest (broken t) (rows t))) (answer 0 (length t))) .number ≡ 1 → ⊥
@@ -58,13 +58,13 @@ reads-no-1 file (good t) room h e =
     go false true e = omega arith
     go false false e = omega arith
 
-pub reads-bad : (file out : List ℕ) (k : ℕ) → HasForm file (bad k) → (number place : ℕ) → number ≡ 20 → place ≡ k → ReadsTable file out (answer number place) out
+pub reads-bad : (file out : List ℕ) (k : ℕ) → HasForm mostRows file (bad k) → (number place : ℕ) → number ≡ 20 → place ≡ k → ReadsTable mostRows file out (answer number place) out
 unfolding reading
 reads-bad file out k h number place n p =
     let r = refuses (reading (bad k) (length out)) (rowsIn (bad k)) out number place (same-answer n p) (λ z. omega arith) in
     (bad k, h, r .0, r .1)
 
-pub reads-good : (file t out : List ℕ) → HasForm file (good t) → (number place : ℕ) (out' : List ℕ) → Answered (reading (good t) (length out)) t out number place out' → ReadsTable file out (answer number place) out'
+pub reads-good : (file t out : List ℕ) → HasForm mostRows file (good t) → (number place : ℕ) (out' : List ℕ) → Answered (reading (good t) (length out)) t out number place out' → ReadsTable mostRows file out (answer number place) out'
 unfolding rowsIn
 reads-good file t out h number place out' r = (good t, h, r .0, r .1)
 

@@ -1,6 +1,6 @@
 -- Laws of reading the lines of numbers one by one: where it starts, one number more, and the file's form where it ends.
 -- Assumes nothing.
-use Prim.Native.Nat.{ℕ, _+_, _*_, _%_, _<_, _≤_}
+use Prim.Native.Nat.{ℕ, _+_, _*_, _<_, _≤_}
 use native.Mathlib.Omega.{arith}
 use mathlib.Core.Path.{_≡_, sym, _∙_}
 use mathlib.Core.Logic.{_⊎_, ⊎-elim}
@@ -8,9 +8,10 @@ use mathlib.Core.List.{List, _++_, append-assoc, append-nil}
 use lib.ListN.{length, getD, drop, set, length-set}
 use lib.Seq.{getD-set-same, getD-set-other, take-set-le}
 use lib.Dec.{T}
-use borrow.Author.Tests.{le-leb, ne-eqb}
-use Rattle.meaning.specs.Table.{rows, mostRows, lengthAllowed}
+use borrow.Author.Tests.{ne-eqb}
+use Rattle.meaning.specs.Table.{rows, mostRows, lengthWithin}
 use Rattle.meaning.proofs.Bools.{eq-or-ne}
+use Rattle.meaning.proofs.Tables.{within-length}
 use Rattle.decimal.specs.Decimal.{ascii, mostNumber}
 use Rattle.decimal.specs.declared.Decimal.the-variants.{Number, Nothing}
 use Rattle.files.specs.Files.{line, key, numberLines, joined, holdable, good, bad, HasForm}
@@ -20,29 +21,28 @@ use Rattle.files.proofs.Lines.{joined-more}
 use Rattle.files.proofs.Forms.{holdable-length, holdable-none, none-above, holdable-from, bad-number, bad-last, good-file}
 
 -- a number of rows that can be held is replaced by one that fits
-holdable-set : (t : List ℕ) (i n : ℕ) → T (holdable t) → n ≤ mostNumber → T (holdable (set t i n))
-unfolding lengthAllowed
+holdable-set : (t : List ℕ) (i n : ℕ) → T (holdable mostRows t) → n ≤ mostNumber → T (holdable mostRows (set t i n))
+unfolding lengthWithin
 holdable-set t i n h k =
-    holdable-from (set t i n) (rw length-set (holdable-length t h)) (λ j l.
+    holdable-from mostRows (set t i n) (rw length-set (holdable-length mostRows t h)) (λ j l.
     ⊎-elim
     (λ (e : j ≡ i). let m : i < length t = omega (arith, length-set t i n) in rw (e, getD-set-same t i n 0 m) k)
-    (λ (e : j ≡ i → ⊥). rw (getD-set-other t i j n 0 e) (none-above t (holdable-none t h) j))
+    (λ (e : j ≡ i → ⊥). rw (getD-set-other t i j n 0 e) (none-above t (holdable-none mostRows t h) j))
     (eq-or-ne j i))
 
 -- the first two lines have been read: numbers as many as they say, whatever they are, begin the rest
 pub passed-none : (file : List ℕ) (at n : ℕ) (t : List ℕ) → HeadOf file (Rows n at) → length t ≡ 4 * n → ((i : ℕ) → i < length t → getD t i 0 ≤ mostNumber) → Passed file at 0 t
-unfolding HeadOf lengthAllowed joined numberLines
+unfolding HeadOf joined numberLines
 passed-none file at n t h l fit =
     let r : rows t ≡ n = omega arith in
-    let m : length t % 4 ≡ 0 = omega arith in
     record {
-      holds = holdable-from t (rw (m, r, le-leb 1 n (h .0), le-leb n mostRows (h .1)) tt) fit;
+      holds = holdable-from mostRows t (within-length mostRows t (omega arith) (omega (arith, h .0)) (omega (arith, h .1))) fit;
       inside = h .2;
       passed = rw (r, append-nil (line "nodes" n)) (h .3);
     }
 
 -- a head is bad as the file is
-pub head-bad : (file : List ℕ) (k : ℕ) → HeadOf file (Bad k) → HasForm file (bad k)
+pub head-bad : (file : List ℕ) (k : ℕ) → HeadOf file (Bad k) → HasForm mostRows file (bad k)
 unfolding HeadOf
 head-bad file k h = h
 
@@ -51,13 +51,13 @@ unfolding HeadOf
 head-few file at n h = h .1
 
 -- the form that is told
-pub told-bad : (file t : List ℕ) (k : ℕ) → (k ≡ 0 → ⊥) → HasForm file (formFrom k t) → HasForm file (bad k)
+pub told-bad : (file t : List ℕ) (k : ℕ) → (k ≡ 0 → ⊥) → HasForm mostRows file (formFrom k t) → HasForm mostRows file (bad k)
 told-bad file t k n h = rw (ne-eqb k 0 n) at h
 
-pub told-good : (file t : List ℕ) (k : ℕ) → k ≡ 0 → HasForm file (formFrom k t) → HasForm file (good t)
+pub told-good : (file t : List ℕ) (k : ℕ) → k ≡ 0 → HasForm mostRows file (formFrom k t) → HasForm mostRows file (good t)
 told-good file t k z h = rw z at h
 
-pub good-holds : (file t : List ℕ) → HasForm file (good t) → T (holdable t)
+pub good-holds : (file t : List ℕ) → HasForm mostRows file (good t) → T (holdable mostRows t)
 unfolding HasForm
 good-holds file t h = h .0
 
@@ -77,12 +77,12 @@ module _ (file : List ℕ) (at i : ℕ) (t : List ℕ) (p : Passed file at i t) 
       }
 
   -- the line of number i is bad, or the one behind the last; or the file is good
-  pub refused-number : i < length t → LineAt (ascii (key i) ++ ascii "=") file at Nothing → HasForm file (formFrom (i + 3) t)
+  pub refused-number : i < length t → LineAt (ascii (key i) ++ ascii "=") file at Nothing → HasForm mostRows file (formFrom (i + 3) t)
   unfolding LineAt line
   refused-number h l = rw (ne-eqb (i + 3) 0 (λ e. omega arith)) (bad-number file at i t p h l)
 
-  pub refused-last : i ≡ length t → at < length file → HasForm file (formFrom (i + 3) t)
+  pub refused-last : i ≡ length t → at < length file → HasForm mostRows file (formFrom (i + 3) t)
   refused-last h l = rw (ne-eqb (i + 3) 0 (λ e. omega arith)) (bad-last file at i t p h l)
 
-  pub taken : i ≡ length t → length file ≤ at → HasForm file (formFrom 0 t)
+  pub taken : i ≡ length t → length file ≤ at → HasForm mostRows file (formFrom 0 t)
   taken h l = good-file file at i t p h l

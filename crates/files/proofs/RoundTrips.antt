@@ -10,7 +10,7 @@ use mathlib.Core.List.{List, _++_}
 use lib.ListN.{length, take, drop}
 use lib.Seq.{take-append-seam}
 use lib.Dec.{T}
-use Rattle.meaning.specs.Table.{accepted}
+use Rattle.meaning.specs.Table.{mostRows, accepted}
 use Rattle.meaning.specs.Answers.{answer, tableAnswer, output}
 use Rattle.meaning.specs.declared.Answer.{Answer}
 use Rattle.meaning.proofs.Bools.{lt-or-ge, eq-or-ne}
@@ -33,7 +33,7 @@ unfolding tableAnswer
 accepted-answer t acc = ap (λ (a : Answer). a .number) (table-lets t (answer 0 _) acc)
 
 -- the bytes of rows that a file can hold are a good file
-good-bytes : (t : List ℕ) → T (holdable t) → HasForm (bytesOf t) (good t)
+good-bytes : (t : List ℕ) → T (holdable mostRows t) → HasForm mostRows (bytesOf t) (good t)
 unfolding HasForm
 good-bytes t h = (h, refl)
 
@@ -53,7 +53,7 @@ taken t room z =
 -- room, give the table
 pub read-written : (t out : List ℕ) (a : Answer) (out' : List ℕ) (room : List ℕ) (b : Answer) (room' : List ℕ)
     → accepted t ≡ true → length (bytesOf t) ≤ length out → length t ≤ length room
-    → WritesTable t out a out' → ReadsTable (take (a .place) out') room b room'
+    → WritesTable t out a out' → ReadsTable mostRows (take (a .place) out') room b room'
     → (a ≡ answer 0 (length (bytesOf t))) × (b ≡ answer 0 (length t)) × (room' ≡ t ++ drop (length t) room)
 unfolding rowsIn
 read-written t out a out' room b room' acc h k (e, w) (form, f, r, v) =
@@ -61,14 +61,14 @@ read-written t out a out' room b room' acc h k (e, w) (form, f, r, v) =
     let done : a ≡ answer 0 (length (bytesOf t)) = e ∙ sym (write-whole t (length out) ok h) in
     let all : out' ≡ bytesOf t ++ drop (length (bytesOf t)) out = w ∙ written-output a (bytesOf t) out (ap (λ (a : Answer). a .number) done) in
     let bytes : take (a .place) out' ≡ bytesOf t = rw (done, all) (take-append-seam (bytesOf t) (drop (length (bytesOf t)) out)) in
-    let is : form ≡ good t = form-unique (bytesOf t) form (good t) (rw bytes at f) (good-bytes t (holdable-from t (allowed t acc) (λ i l. omega (arith, numbers-small t acc i)))) in
+    let is : form ≡ good t = form-unique mostRows (bytesOf t) form (good t) (rw bytes at f) (good-bytes t (holdable-from mostRows t (allowed t acc) (λ i l. omega (arith, numbers-small t acc i)))) in
     let read : b ≡ answer 0 (length t) = r ∙ ap (λ (x : Form). reading x (length room)) is ∙ sym (read-whole t (length room) k ok) in
     (done, read, v ∙ written-output b (rowsIn form) room (ap (λ (a : Answer). a .number) read) ∙ rw (ap rowsIn is))
 
 -- WHATEVER THE READER TAKES, THE WRITER WRITES BACK BYTE FOR BYTE: the rows that were read, written where there is room, give the file
 pub write-read : (file room : List ℕ) (a : Answer) (room' : List ℕ) (out : List ℕ) (b : Answer) (out' : List ℕ)
     → a .number ≡ 0 → length file ≤ length out
-    → ReadsTable file room a room' → WritesTable (take (a .place) room') out b out'
+    → ReadsTable mostRows file room a room' → WritesTable (take (a .place) room') out b out'
     → (b ≡ answer 0 (length file)) × (out' ≡ file ++ drop (length file) out)
 unfolding HasForm reading rowsIn
 write-read file room a room' out b out' z h (bad k, f, r, v) (e, w) = let n : _≡_ {A = ℕ} 20 0 = ap (λ (a : Answer). a .number) (sym r) ∙ z in absurd (omega arith)

@@ -10,8 +10,7 @@ use lib.ListN.{length, getD, List·getD-eq-default}
 use lib.Dec.{T, leb, eqb, leb→le, eqb→eq}
 use Rattle.meaning.specs.Table.{kind, name, parentOf, size, rows, end, goodRoot, goodName, goodRow, accepted}
 use Rattle.meaning.proofs.Bools.{and-l, and-r, lt-or-ge}
-use Rattle.meaning.proofs.Tables.{root-holds, row-holds, whole, some-row, few-rows, child, nest, allowed}
-use Rattle.files.proofs.Forms.{allowed-rows}
+use Rattle.meaning.proofs.Tables.{length-within, root-holds, row-holds, whole, some-row, few-rows, child, nest, allowed}
 
 -- a name is at most 65,535
 good-name : (k n : ℕ) → T (goodName k n) → n ≤ 65535
@@ -66,7 +65,7 @@ module _ (t : List ℕ) (acc : accepted t ≡ true) where
   numbers-small i =
       ⊎-elim
       (λ (h : i < length t).
-      let a = allowed-rows t (allowed t acc) in
+      let a = length-within _ t (allowed t acc) in
       let s = row-small (i / 4) (omega arith) in
       field (i / 4) (i % 4) s (omega arith) (omega arith))
       (λ (h : length t ≤ i). rw (List·getD-eq-default t 0 h) (omega arith))

@@ -29,10 +29,10 @@ rowsIn (good t) = t
 unfoldable pub writing : List ℕ → ℕ → Answer
 writing t room = tableChecks t (needs (length (bytesOf t)) room (answer 0 (length (bytesOf t))))
 
--- `files::read_table`: its answer is r, and what was out is out'
-abbrev pub ReadsTable : List ℕ → List ℕ → Answer → List ℕ → Type 0
-ReadsTable file out r out' =
-    (form : Form) × HasForm file form × (r ≡ reading form (length out)) × (out' ≡ output r (rowsIn form) out)
+-- `files::read_table`, for files of so many rows at most: its answer is r, and what was out is out'
+abbrev pub ReadsTable : ℕ → List ℕ → List ℕ → Answer → List ℕ → Type 0
+ReadsTable most file out r out' =
+    (form : Form) × HasForm most file form × (r ≡ reading form (length out)) × (out' ≡ output r (rowsIn form) out)
 
 -- `files::write_table`: its answer is r, and what was out is out'
 abbrev pub WritesTable : List ℕ → List ℕ → Answer → List ℕ → Type 0

@@ -1,5 +1,5 @@
 -- Table files (document 02, W-201): key=value lines in a fixed order, each ended by one line feed. One definition, the bytes of a table, says
--- what a good file is, and so which line of another is the first bad one.
+-- what a good file is, and so which line of another is the first bad one. The most rows are a parameter: 4,096 before W-211, now `mostRows`.
 -- Assumes nothing: these are definitions.
 use Prim.Native.Nat.{ℕ, _+_, _%_, _<_}
 use Prim.Native.String.{String}
@@ -9,7 +9,7 @@ use mathlib.Core.List.{List, [], _∷_, _++_}
 use lib.ListN.{take}
 use lib.Dec.{T, ltb, eqb}
 use Rattle.meaning.specs.Lists.{some}
-use Rattle.meaning.specs.Table.{rows, lengthAllowed}
+use Rattle.meaning.specs.Table.{rows, lengthWithin}
 use Rattle.decimal.specs.Decimal.{ascii, digits, mostNumber}
 
 -- ---- the bytes of a table
@@ -54,9 +54,9 @@ linesOf (b ∷ s) = cond (eqb b 10) ((b ∷ []) ∷ linesOf s) (onto b (linesOf 
 
 -- ---- good files and bad lines
 
--- rows that a file can hold: a count of rows in document 01's limits, and numbers up to 4,294,967,295
-unfoldable pub holdable : List ℕ → Bool
-holdable t = lengthAllowed t && not (some (ltb mostNumber) t)
+-- rows that a file can hold: 1 to so many of them, and numbers up to 4,294,967,295
+unfoldable pub holdable : ℕ → List ℕ → Bool
+holdable most t = lengthWithin most t && not (some (ltb mostNumber) t)
 
 -- the form of a file: it is good and holds these rows, or its first bad line has this number, from 1
 pub data Form : Type 0 where
@@ -64,11 +64,11 @@ pub data Form : Type 0 where
   bad : ℕ → Form
 
 -- do the first k lines of a file open the file of some rows?
-abbrev pub Opens : List ℕ → ℕ → Type 0
-Opens file k = (t : List ℕ) × T (holdable t) × (take k (linesOf file) ≡ take k (tableLines t))
+abbrev pub Opens : ℕ → List ℕ → ℕ → Type 0
+Opens most file k = (t : List ℕ) × T (holdable most t) × (take k (linesOf file) ≡ take k (tableLines t))
 
 -- a file is good if it is the bytes of some rows; its first bad line is the first at which it parts from every such file: with the lines
 -- before it a file opens, and with it as well none does
-unfoldable pub HasForm : List ℕ → Form → Type 0
-HasForm file (good t) = T (holdable t) × (file ≡ bytesOf t)
-HasForm file (bad k) = ((j : ℕ) → j < k → Opens file j) × (Opens file k → ⊥)
+unfoldable pub HasForm : ℕ → List ℕ → Form → Type 0
+HasForm most file (good t) = T (holdable most t) × (file ≡ bytesOf t)
+HasForm most file (bad k) = ((j : ℕ) → j < k → Opens most file j) × (Opens most file k → ⊥)

@@ -39,7 +39,7 @@ linesBefore i t = heading t ++ numberLines 0 (take i t)
 
 -- the lines before number i have been read, and the rest of the file stands from index at on
 pub record Passed (file : List ℕ) (at i : ℕ) (t : List ℕ) : Type 0 where
-  pub holds : T (holdable t)
+  pub holds : T (holdable mostRows t)
   pub inside : at ≤ length file
   pub passed : file ≡ joined (linesBefore i t) ++ drop at file
 
@@ -47,7 +47,7 @@ pub record Passed (file : List ℕ) (at i : ℕ) (t : List ℕ) : Type 0 where
 unfoldable pub HeadOf : List ℕ → Head → Type 0
 HeadOf file (Rows n at) =
     (0 < n) × (n ≤ mostRows) × (at ≤ length file) × (file ≡ (line "edition" 1 ++ line "nodes" n) ++ drop at file)
-HeadOf file (Bad k) = HasForm file (bad k)
+HeadOf file (Bad k) = HasForm mostRows file (bad k)
 
 -- the form that a first bad line, 0 for none, tells
 abbrev pub formFrom : ℕ → List ℕ → Form

@@ -9,6 +9,7 @@ ghost use mathlib.Core.List.{_++_};
 ghost use Prim.Native.Nat.{_+_, _*_, _<_, _≤_};
 ghost use lib.ListN.{length, getD, drop};
 ghost use lib.Dec.{T, eqb};
+ghost use Rattle.meaning.specs.Table.{mostRows};
 ghost use Rattle.meaning.specs.Answers.{answer, output};
 ghost use Rattle.decimal.specs.Decimal.{ascii};
 ghost use Rattle.files.specs.Files.{key, holdable, good, HasForm};
@@ -106,7 +107,7 @@ fn read_head(file: &[u8]) -> Head
 // Reads the lines of all numbers, from an index of the file on; gives the first bad line, or 0 for a good file.
 fn read_numbers(file: &[u8], from: usize, numbers: &mut [u32]) -> usize
     requires { ⌜ Passed (now file) from 0 (now numbers) ⌝ }
-    ensures { λ r. ⌜ HasForm (now (file .entry)) (formFrom r (now (numbers .exit))) ⌝ }
+    ensures { λ r. ⌜ HasForm mostRows (now (file .entry)) (formFrom r (now (numbers .exit))) ⌝ }
 {
     let mut at = from;
     let mut i = 0;
@@ -139,7 +140,7 @@ fn copy(numbers: &[u32], out: &mut [u32])
 
 // Hands over the numbers of a good file: room first, then the rows.
 fn hand_over(numbers: &[u32], out: &mut [u32]) -> WideAnswer
-    requires { ⌜ T (holdable (now numbers)) ⌝ }
+    requires { ⌜ T (holdable mostRows (now numbers)) ⌝ }
     ensures { λ r. ⌜ (answer (r .number) (r .place) ≡ reading (good (now (numbers .entry))) (length (now (out .entry)))) × (now (out .exit) ≡ output (answer (r .number) (r .place)) (now (numbers .entry)) (now (out .entry))) ⌝ }
 {
     let count = numbers.len();
@@ -163,7 +164,7 @@ fn read_into(
     out: &mut [u32],
 ) -> WideAnswer
     requires { ⌜ HeadOf (now file) (Head.Rows count at) × (length (now numbers) ≡ 4 * count) ⌝ }
-    ensures { λ r. ⌜ ReadsTable (now (file .entry)) (now (out .entry)) (answer (r .number) (r .place)) (now (out .exit)) ⌝ }
+    ensures { λ r. ⌜ ReadsTable mostRows (now (file .entry)) (now (out .entry)) (answer (r .number) (r .place)) (now (out .exit)) ⌝ }
 {
     let bad = read_numbers(file, at, numbers);
     if bad != 0 {
@@ -175,7 +176,7 @@ fn read_into(
 // Reads the rows behind the first two lines. They are read into a buffer, since a broken row leaves the output as it was.
 fn read_rows(file: &[u8], at: usize, count: usize, out: &mut [u32]) -> WideAnswer
     requires { ⌜ HeadOf (now file) (Head.Rows count at) ⌝ }
-    ensures { λ r. ⌜ ReadsTable (now (file .entry)) (now (out .entry)) (answer (r .number) (r .place)) (now (out .exit)) ⌝ }
+    ensures { λ r. ⌜ ReadsTable mostRows (now (file .entry)) (now (out .entry)) (answer (r .number) (r .place)) (now (out .exit)) ⌝ }
 {
     let mut space = [0u32; MOST_NUMBERS];
     let buffer: &mut [u32] = &mut space;
@@ -184,7 +185,7 @@ fn read_rows(file: &[u8], at: usize, count: usize, out: &mut [u32]) -> WideAnswe
 
 // 20 with the first bad line, 21 with the numbers needed, 2 with the lowest broken row, 0 with the numbers written.
 pub fn read_table(file: &[u8], out: &mut [u32]) -> WideAnswer
-    ensures { λ r. ⌜ ReadsTable (now (file .entry)) (now (out .entry)) (answer (r .number) (r .place)) (now (out .exit)) ⌝ }
+    ensures { λ r. ⌜ ReadsTable mostRows (now (file .entry)) (now (out .entry)) (answer (r .number) (r .place)) (now (out .exit)) ⌝ }
 {
     let head = read_head(file);
     match head {

@@ -5,7 +5,6 @@ use axes::principal;
 use basics::both;
 use basics::either;
 use basics::given;
-use basics::wide;
 use meaning::Answer;
 use table::row_count;
 ghost use mathlib.Core.Path.{_≡_};
@@ -33,13 +32,13 @@ pub fn start_mark(table: &[u32], op: usize, start: usize, marks: &mut [bool])
 }
 
 // Marks the first n nodes of the list.
-pub fn add_marks(list: &[u32], n: usize, marks: &mut [bool])
+pub fn add_marks(list: &[u16], n: usize, marks: &mut [bool])
     requires { ⌜ n ≤ length (now list) ⌝ }
     ensures { λ _. ⌜ ((y : ℕ) → y < length (now (marks .entry)) → getD (now (marks .exit)) y false ≡ (getD (now (marks .entry)) y false || has (take n (now (list .entry))) y)) ⌝ }
 {
     let mut i = 0;
     while i < n {
-        let y = wide(list[i]);
+        let y = list[i] as usize;
         if y < marks.len() {
             marks[y] = true;
         }

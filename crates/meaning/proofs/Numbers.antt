@@ -1,7 +1,7 @@
--- Whole numbers as doubles: each up to 8,192 is converted exactly, so positions compare as numbers do. By the kit's account
+-- Whole numbers as doubles: each of 32 bits is converted exactly, so positions compare as numbers do. By the kit's account
 -- of rounding, which changes nothing that the format holds.
 -- Assumes nothing.
-use Prim.Native.Nat.{ℕ, _+_, _*_, _^_, _<_, _≤_}
+use Prim.Native.Nat.{ℕ, _+_, _*_, _^_, _<_}
 use mathlib.Core.Path.{_≡_, refl, sym}
 use mathlib.Core.Bool.{Bool, true, false, _&&_, _||_, not}
 use lib.Dec.{ltb→lt}
@@ -14,8 +14,8 @@ use borrow.Author.Tests.{eq-eqb}
 use native.Mathlib.Nat.{lt-trans, mul-one}
 use Rattle.meaning.specs.Meaning.{float, nonzero}
 
--- a whole number up to 8,192 as a double is that number: finite, not negative, n over 1
-pub float-exact : (n : ℕ) → n ≤ 8192 → HasValue (float n) false n 1
+-- a whole number of 32 bits as a double is that number: finite, not negative, n over 1
+pub float-exact : (n : ℕ) → n < 4294967296 → HasValue (float n) false n 1
 unfolding float Ieee.ofInt
 float-exact n h =
     let small : n < 2 ^ prec binary64 = omega arith in

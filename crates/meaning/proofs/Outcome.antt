@@ -19,7 +19,7 @@ use Rattle.meaning.specs.declared.Answer.{Answer}
 use Rattle.meaning.proofs.Tables.{few-rows}
 use Rattle.meaning.proofs.Checks.{table-passes, table-stops, table-accepted, path-accepted, path-passes, path-stops, most-rows}
 
--- a table whose answer is 0 has at most 4,096 rows, a path whose answer is 0 at most 256
+-- a table whose answer is 0 has at most 8,192 rows, a path whose answer is 0 at most 256
 pub table-fits : (t : List ℕ) → tableAnswer t .number ≡ 0 → rows t ≤ mostRows
 table-fits t e = few-rows t (table-accepted t e)
 

@@ -1,16 +1,17 @@
 -- The shape of an accepted table: what the parent rule says of a row, and that subtrees nest or are disjoint.
 -- Assumes nothing.
-use Prim.Native.Nat.{ℕ, zero, suc, _<_, _≤_}
+use Prim.Native.Nat.{ℕ, zero, suc, _*_, _%_, _<_, _≤_}
 use mathlib.Core.Path.{_≡_, sym, subst}
 use mathlib.Core.Logic.{_⊎_, inl, inr}
 use mathlib.Core.Bool.{true, false, _&&_, not, cond}
 use mathlib.Core.List.{List}
+use lib.ListN.{length}
 use lib.Dec.{T, leb, ltb, eqb, ltb→lt, leb→le, eqb→eq, lt→ltb, le→leb}
 use native.Mathlib.Omega.{arith}
 use native.Mathlib.Nat.{eq-or-lt-of-le}
-use borrow.Author.Tests.{ne-eqb}
+use borrow.Author.Tests.{ne-eqb, le-leb}
 use Rattle.meaning.specs.Lists.{upTo, some}
-use Rattle.meaning.specs.Table.{mostRows, kind, parentOf, rows, end, isAttribute, lengthAllowed, goodRoot, nearest, goodParent, goodRow, broken, accepted}
+use Rattle.meaning.specs.Table.{mostRows, kind, parentOf, rows, end, isAttribute, lengthWithin, lengthAllowed, goodRoot, nearest, goodParent, goodRow, broken, accepted}
 use Rattle.meaning.proofs.Bools.{and-l, and-r, and-i, truly, is-false, not-false, not-e, lt-or-ge}
 use Rattle.meaning.proofs.Lists.{below-none, some-from, has-upTo-from}
 
@@ -78,6 +79,20 @@ module _ (t : List ℕ) (n : ℕ) (sound : Sound t n) where
       let w : not (cond (eqb i 0) (goodRoot t) (goodRow t i)) ≡ false = sound i l in
       not-false (goodRow t i) (rw (ne-eqb i 0 (λ e. omega arith)) at w)
 
+-- how many numbers and rows a length within a limit has, and that so many are within it
+pub length-within : (most : ℕ) (t : List ℕ) → T (lengthWithin most t) → (length t ≡ 4 * rows t) × (0 < rows t) × (rows t ≤ most)
+unfolding lengthWithin
+length-within most t l =
+    let a : T (eqb (length t % 4) 0) = search (and-l, and-r) in
+    let b : T (leb 1 (rows t)) = search (and-l, and-r) in
+    let c : T (leb (rows t) most) = search (and-l, and-r) in
+    let e : length t % 4 ≡ 0 = eqb→eq (length t % 4) 0 a in
+    (omega arith, leb→le 1 (rows t) b, leb→le (rows t) most c)
+
+pub within-length : (most : ℕ) (t : List ℕ) → length t ≡ 4 * rows t → 0 < rows t → rows t ≤ most → T (lengthWithin most t)
+unfolding lengthWithin
+within-length most t e a b = let m : length t % 4 ≡ 0 = omega arith in rw (m, le-leb 1 (rows t) a, le-leb (rows t) most b) tt
+
 module _ (t : List ℕ) (acc : accepted t ≡ true) where
   pub allowed : T (lengthAllowed t)
   unfolding accepted
@@ -89,18 +104,10 @@ module _ (t : List ℕ) (acc : accepted t ≡ true) where
       (not-e (some (broken t) (upTo (rows t))) (and-r (lengthAllowed t) (not (some (broken t) (upTo (rows t)))) (truly acc))))
 
   pub some-row : 0 < rows t
-  unfolding lengthAllowed
-  some-row =
-      let l : T (lengthAllowed t) = allowed in
-      let f : T (leb 1 (rows t)) = search (and-l, and-r) in
-      omega (arith, leb→le)
+  some-row = length-within mostRows t allowed .1
 
   pub few-rows : rows t ≤ mostRows
-  unfolding lengthAllowed
-  few-rows =
-      let l : T (lengthAllowed t) = allowed in
-      let f : T (leb (rows t) mostRows) = search (and-l, and-r) in
-      leb→le (rows t) mostRows f
+  few-rows = length-within mostRows t allowed .2
 
   -- row 0's parent field is filler, and it is 0
   pub root-parent : parentOf t 0 ≡ 0

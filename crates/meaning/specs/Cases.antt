@@ -3,12 +3,13 @@
 -- Assumes nothing: each answer is computed from the definitions.
 use Prim.Native.Nat.{ℕ}
 use mathlib.Core.Path.{_≡_, refl}
+use mathlib.Core.Bool.{true}
 use mathlib.Core.List.{List, [], _∷_, _++_, map}
 use lib.ListN.{length, drop, replicate}
 use lib.Ieee.{Float, binary64, ofBits}
 use lib.Ieee as Ieee
 use Rattle.meaning.specs.Lists.{upTo, downFrom, keep, some, placeFrom, lowest}
-use Rattle.meaning.specs.Table.{lengthAllowed, hasElement, goodRoot, goodName, goodSize, nearest, goodParent, textOfRoot, elementOfRoot, laterElement, previousSibling, textAfterText, amongAttributes, strayAttribute, sameAttribute, attributeAgain, goodRow, broken, accepted}
+use Rattle.meaning.specs.Table.{lengthWithin, lengthAllowed, hasElement, goodRoot, goodName, goodSize, nearest, goodParent, textOfRoot, elementOfRoot, laterElement, previousSibling, textAfterText, amongAttributes, strayAttribute, sameAttribute, attributeAgain, goodRow, broken, accepted}
 use Rattle.meaning.specs.Axis.{axisOf, under, inside, after, on, principal, testOf, passes, isReverse, ordered, axisNodes, place, candidates}
 use Rattle.meaning.specs.Rows.{rowsOf, pathLengthAllowed, badLiteral, badLiteralAt, opOf, fieldsOf, code, isNumber, isTruth, isPath, isStep, isPredicate, isLiteral, isUnknown, isLink, takes, mayMiss, goodLink, goodTest, goodField, goodFields, follow, firstLink, secondLink, links, linkedBelow, linksAgain, misplaced, brokenRow}
 use Rattle.meaning.specs.Tree.{indexOrAxis, testAt, linked, tree, depth}
@@ -215,6 +216,8 @@ cases =
     ∷ checked (node 0 0 0 3 (node 1 1 0 2 (node 3 0 1 0 (node 5 1 1 0 [])))) 2 3
     ∷ checked (node 0 0 0 2 (node 5 1 0 0 (node 1 1 0 0 []))) 2 1
     ∷ checked (node 0 0 0 4 (node 1 1 0 3 (node 5 1 1 0 (node 5 2 1 0 (node 5 1 1 0 []))))) 2 4
+    ∷ checked (replicate 32769 0) 1 0
+    ∷ checked (replicate 32772 0) 1 0
     ∷ selects 2 attributed (one 0 0) [] 2 (2 ∷ [])
     ∷ selects 2 attributed (one 0 1) [] 2 []
     ∷ selects 2 attributed (one 0 17) [] 2 []
@@ -268,5 +271,10 @@ cases =
 
 -- the definitions give what the documents list
 pub r1-to-r13 : each given cases ≡ each listed cases
-unfolding each given listed upTo downFrom keep some placeFrom lowest lengthAllowed hasElement goodRoot goodName goodSize nearest goodParent textOfRoot elementOfRoot laterElement previousSibling textAfterText amongAttributes strayAttribute sameAttribute attributeAgain goodRow broken accepted axisOf under inside after on principal testOf passes isReverse ordered axisNodes place candidates pathLengthAllowed badLiteral badLiteralAt opOf fieldsOf code isNumber isTruth isPath isStep isPredicate isLiteral isUnknown isLink takes mayMiss goodLink goodTest goodField goodFields follow firstLink secondLink links linkedBelow linksAgain misplaced brokenRow indexOrAxis testAt linked tree depth float nonzero applied keepAt isAbsolute startOf union value select walk filtered contextual overPath numeric asks counting steps someStep firstStep inverseOf predicates test back turned weight link row written tableChecks tableAnswer askable axisPlace pathChecks isEdition evaluation output evaluated countingStep attributeStep absolutePath turning turnedOutput Ieee.isNan Ieee.toBits Ieee.ofBits Ieee.ofInt Ieee.eq Ieee.ne Ieee.lt Ieee.le Ieee.add Ieee.sub Ieee.mul Ieee.div Ieee.rem Ieee.neg
+unfolding each given listed upTo downFrom keep some placeFrom lowest lengthWithin hasElement goodRoot goodName goodSize nearest goodParent textOfRoot elementOfRoot laterElement previousSibling textAfterText amongAttributes strayAttribute sameAttribute attributeAgain goodRow broken accepted axisOf under inside after on principal testOf passes isReverse ordered axisNodes place candidates pathLengthAllowed badLiteral badLiteralAt opOf fieldsOf code isNumber isTruth isPath isStep isPredicate isLiteral isUnknown isLink takes mayMiss goodLink goodTest goodField goodFields follow firstLink secondLink links linkedBelow linksAgain misplaced brokenRow indexOrAxis testAt linked tree depth float nonzero applied keepAt isAbsolute startOf union value select walk filtered contextual overPath numeric asks counting steps someStep firstStep inverseOf predicates test back turned weight link row written tableChecks tableAnswer askable axisPlace pathChecks isEdition evaluation output evaluated countingStep attributeStep absolutePath turning turnedOutput Ieee.isNan Ieee.toBits Ieee.ofBits Ieee.ofInt Ieee.eq Ieee.ne Ieee.lt Ieee.le Ieee.add Ieee.sub Ieee.mul Ieee.div Ieee.rem Ieee.neg
 r1-to-r13 = refl
+
+-- and 8,192 rows are allowed, whatever they are; the cases above have 8,193 refused (W-211)
+pub most-rows-allowed : lengthAllowed (replicate 32768 0) ≡ true
+unfolding lengthWithin
+most-rows-allowed = refl

@@ -1,4 +1,4 @@
--- The node table (document 01, "The node table"; document 02, W-206 and W-209): four numbers a row; row i is node i, and row order is
+-- The node table (document 01, "The node table"; document 02, W-206, W-209 and W-211): four numbers a row; row i is node i, and row order is
 -- document order.
 -- Assumes nothing: these are definitions.
 use Prim.Native.Nat.{ℕ, _+_, _-_, _*_, _/_, _%_}
@@ -8,9 +8,9 @@ use lib.ListN.{length, getD}
 use lib.Dec.{leb, ltb, eqb}
 use Rattle.meaning.specs.Lists.{upTo, some}
 
--- the most rows of a table
+-- the most rows of a table (document 02, W-211)
 abbrev pub mostRows : ℕ
-mostRows = 4096
+mostRows = 8192
 
 -- kind, name, parent and size of row i; 0 past the end
 abbrev pub kind : List ℕ → ℕ → ℕ
@@ -38,9 +38,13 @@ isText t i = eqb (kind t i) 2
 abbrev pub isAttribute : List ℕ → ℕ → Bool
 isAttribute t i = eqb (kind t i) 5
 
--- 1 to 4,096 rows, and a multiple of 4
-unfoldable pub lengthAllowed : List ℕ → Bool
-lengthAllowed t = eqb (length t % 4) 0 && leb 1 (rows t) && leb (rows t) mostRows
+-- 1 to so many rows, and a multiple of 4
+unfoldable pub lengthWithin : ℕ → List ℕ → Bool
+lengthWithin most t = eqb (length t % 4) 0 && leb 1 (rows t) && leb (rows t) most
+
+-- the lengths of tables: within the most rows
+abbrev pub lengthAllowed : List ℕ → Bool
+lengthAllowed t = lengthWithin mostRows t
 
 -- the last row of i's subtree: size is the number of rows below it, attributes included
 abbrev pub end : List ℕ → ℕ → ℕ

@@ -2,7 +2,7 @@
 // The laws of the definitions stand under proofs/. Nothing here runs.
 
 // The most rows of a table: document 01's limit, which `mostRows` names in the definitions.
-pub const MOST_ROWS: usize = 4096;
+pub const MOST_ROWS: usize = 8192;
 
 // The number of the last axis, which `lastAxis` names in the definitions.
 pub const LAST_AXIS: usize = 11;

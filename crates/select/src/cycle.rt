@@ -3,7 +3,6 @@
 // Each call goes to a lower row, but for those within one step, one truth and one path; so links, with room for three calls at
 // the same link, bound the depth. Large arrays stand where no chain repeats a frame: once for each path inside a path.
 use basics::below;
-use basics::wide;
 use candidates::list_candidates;
 use counting::counting;
 use counting::counts;
@@ -108,7 +107,7 @@ fn keep(
     path: &[u32],
     literals: &[f64],
     link: usize,
-    list: &mut [u32],
+    list: &mut [u16],
     n: usize,
 ) -> usize
     requires { ⌜ Ready (now table) link ⌝ ∗ ⌜ (n ≤ mostRows) × (length (now list) ≡ mostRows) ⌝ }
@@ -126,9 +125,10 @@ fn keep(
     let mut i = 0;
     while i < k {
         let y = list[i];
+        let node = y as usize;
         let position = float_of(i + 1);
         let context = Context {
-            node: wide(y),
+            node,
             position,
             size,
         };
@@ -153,7 +153,7 @@ fn spread(
     test: usize,
     x: usize,
     next: &mut [bool],
-    list: &mut [u32],
+    list: &mut [u16],
 )
     requires { ⌜ Ready (now table) link ⌝ ∗ ⌜ x < 4294967296 ⌝ ∗ ⌜ length (now list) ≡ mostRows ⌝ }
     ensures { λ _. ⌜ ((y : ℕ) → y < length (now (next .entry)) → getD (now (next .exit)) y false ≡ (getD (now (next .entry)) y false || has (stepTo edition (now (table .entry)) (now (literals .entry)) (now (path .entry)) link axis test x) y)) ⌝ }
@@ -179,7 +179,7 @@ fn step(
 {
     let n = row_count(table);
     let mut next = [false; MOST_ROWS];
-    let mut list = [0u32; MOST_ROWS];
+    let mut list = [0u16; MOST_ROWS];
     let mut x = 0;
     while x < n {
         if marks[x] {

@@ -16,7 +16,7 @@ use Rattle.meaning.specs.Lists.{upTo, some, lowest}
 use Rattle.meaning.specs.Table.{rows, mostRows, lengthAllowed, kind, name, parentOf, size, end, isElement, isText, isAttribute, goodRoot, nearest, goodParent, textOfRoot, elementOfRoot, laterElement, previousSibling, textAfterText, amongAttributes, strayAttribute, attributeAgain, goodRow, broken}
 use Rattle.meaning.proofs.Bools.{and-l, and-r, and-i, truly, is-true, same, eq→eqb, lt-or-ge, eq-or-ne}
 use Rattle.meaning.proofs.Lists.{none-below}
-use Rattle.meaning.proofs.Tables.{Child, good-parent, good-child, nearest-largest}
+use Rattle.meaning.proofs.Tables.{Child, length-within, good-parent, good-child, nearest-largest}
 use Rattle.meaning.proofs.Checks.{Passed, passed-start, passed-more, passed-found}
 use Rattle.table_check.specs.Next.{goodNumbers, wellPlaced, Stands, Next, Behind}
 
@@ -199,9 +199,4 @@ module _ (t : List ℕ) where
 
   -- a length that is allowed has some rows, and few
   pub allowed-rows : lengthAllowed t ≡ true → (0 < rows t) × (rows t ≤ mostRows)
-  unfolding lengthAllowed
-  allowed-rows h =
-      let l : T (lengthAllowed t) = truly h in
-      let a : T (leb 1 (rows t)) = search (and-l, and-r) in
-      let b : T (leb (rows t) mostRows) = search (and-l, and-r) in
-      (leb→le 1 (rows t) a, leb→le (rows t) mostRows b)
+  allowed-rows h = let r = length-within mostRows t (truly h) in (r .1, r .2)

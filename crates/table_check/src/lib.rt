@@ -31,7 +31,7 @@ const MOST_NAME: usize = 65535;
 // Names below this are few enough to be looked up in a short array.
 const FEW_NAMES: usize = 4096;
 
-// 1 to 4,096 rows, and a multiple of 4.
+// 1 to 8,192 rows, and a multiple of 4.
 fn length_allowed(table: &[u32]) -> bool
     ensures { λ r. ⌜ r ≡ lengthAllowed (now (table .entry)) ⌝ }
 {

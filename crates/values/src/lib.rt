@@ -20,7 +20,7 @@ ghost use Rattle.meaning.proofs.Applied.{takesFirst, takesSecond, decides};
 
 // A whole number as a double, exactly: no sign, and n over 1.
 pub fn float_of(n: usize) -> f64
-    requires { ⌜ n ≤ 8192 ⌝ }
+    requires { ⌜ n ≤ mostRows ⌝ }
     ensures { λ r. ⌜ (r ≡ float n) × HasValue r false n 1 ⌝ }
 {
     (n as u32) as f64

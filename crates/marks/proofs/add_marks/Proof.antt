@@ -20,14 +20,14 @@ abbrev μ-loop : tie.MeasureT-loop
 loop-holds : tie.Need-loop-holds Inv-loop μ-loop
 loop-holds c = (search needs, refl, added-start _ _)
 
-mul-wide : tie.Need-mul-wide Inv-loop μ-loop
-mul-wide c = search needs
+mul-y : tie.Need-mul-y Inv-loop μ-loop
+mul-y c = search needs
 
-shared-slice-read-wide : tie.Need-shared-slice-read-wide Inv-loop μ-loop
-shared-slice-read-wide c = search needs
+shared-slice-read-y : tie.Need-shared-slice-read-y Inv-loop μ-loop
+shared-slice-read-y c = search needs
 
-wide-requires : tie.Need-wide-requires Inv-loop μ-loop
-wide-requires c κs = search needs
+cast-y : tie.Need-cast-y Inv-loop μ-loop
+cast-y c = omega (arith, c .shared-slice-known .given (c .before .before .loop .i))
 
 slice-write-marks : tie.Need-slice-write-marks Inv-loop μ-loop
 slice-write-marks c = search needs
@@ -40,17 +40,17 @@ loop-less c = search needs
 
 loop-again : tie.Need-loop-again Inv-loop μ-loop
 loop-again c =
-    let lo = c .before .before .before .before in
+    let lo = c .before .before .before in
     ⊎-elim
-    (λ w. (omega arith, ap length (w .1) ∙ simp length-set (lo .loop .inv .1), rw (w .1) (added-more _ _ _ _ _ (lo .loop .inv .2) (omega arith) (c .before .wide .ensures .0) (w .0 .taken))))
-    (λ w. (omega arith, ap length (w .1) ∙ lo .loop .inv .1, rw (w .1) (added-skip _ _ _ _ _ (lo .loop .inv .2) (omega arith) (c .before .wide .ensures .0) (lo .loop .inv .1) (w .0 .left))))
+    (λ w. (omega arith, ap length (w .1) ∙ simp length-set (lo .loop .inv .1), rw (w .1) (added-more _ _ _ _ _ (lo .loop .inv .2) (omega arith) refl (w .0 .taken))))
+    (λ w. (omega arith, ap length (w .1) ∙ lo .loop .inv .1, rw (w .1) (added-skip _ _ _ _ _ (lo .loop .inv .2) (omega arith) refl (lo .loop .inv .1) (w .0 .left))))
     (c .if1 .came)
 
 same-length : tie.Need-same-length Inv-loop μ-loop
 same-length c = search needs
 
 returns : tie.Need-returns Inv-loop μ-loop
-returns c = added-done _ _ _ _ (c .before .before .before .before .args .n) (c .before .loop .inv .2) (omega arith)
+returns c = added-done _ _ _ _ (c .before .before .args .n) (c .before .loop .inv .2) (omega arith)
 
 pub add-marks-spec : {M : Type 1} → statement M
 add-marks-spec =
@@ -59,9 +59,9 @@ add-marks-spec =
     Inv-loop
     μ-loop
     loop-holds
-    mul-wide
-    shared-slice-read-wide
-    wide-requires
+    mul-y
+    shared-slice-read-y
+    cast-y
     slice-write-marks
     add-i
     loop-less

@@ -24,7 +24,7 @@ both-requires-2 : tie.Need-both-requires-2
 both-requires-2 c κs = search needs
 
 returns : tie.Need-returns
-unfolding T.lengthAllowed
+unfolding T.lengthWithin
 returns c = rw (c .both2 .ensures, c .before .at-most2 .ensures, c .before .before .both .ensures, c .before .before .before .at-most .ensures, c .before .before .before .before .same .ensures, c .before .before .before .before .before .row-count .ensures)
 
 pub length-allowed-spec : {M : Type 1} → statement M

@@ -1,6 +1,7 @@
 -- `values::float_of` meets its contract: the cast is the definition's conversion, and it is exact.
 -- Assumes nothing.
 use mathlib.Core.Path.{refl}
+use native.Mathlib.Omega.{arith}
 use Rattle.meaning.specs.Meaning.{float}
 use Rattle.meaning.proofs.Numbers.{float-exact}
 use borrow.Author.Needs.{needs}
@@ -15,7 +16,7 @@ int-to-float-result c = search needs
 
 returns : tie.Need-returns
 unfolding float
-returns c = (refl, float-exact _ (search needs))
+returns c = (refl, float-exact _ (omega arith))
 
 pub float-of-spec : {M : Type 1} → statement M
 float-of-spec = tie.close (tie.spec cast-result int-to-float-result returns)

@@ -11,7 +11,7 @@ use Rattle.decimal.specs.Decimal.{digits}
 use Rattle.files.specs.Files.{line, key, numberLines, joined, bytesOf}
 use Rattle.files.specs.Parts.{heading, linesBefore}
 use Rattle.files.proofs.Lines.{length-more, all-before}
-use Rattle.files.proofs.Forms.{allowed-rows}
+use Rattle.meaning.proofs.Tables.{length-within}
 use Rattle.files.proofs.Written.{heading-length}
 use borrow.Author.Needs.{needs}
 use Rattle.files.proofs.writer.bytes_needed.Statement.{statement}
@@ -24,7 +24,7 @@ abbrev μ-loop : tie.MeasureT-loop
 μ-loop table sum₀ i₀ sum i = length table - i
 
 cast-width : tie.Need-cast-width Inv-loop μ-loop
-cast-width c = omega (arith, allowed-rows (c .before .args .table .now) (c .before .pre) .2)
+cast-width c = omega (arith, length-within _ (c .before .args .table .now) (c .before .pre) .2)
 
 width-requires : tie.Need-width-requires Inv-loop μ-loop
 width-requires c κs = search needs
@@ -49,7 +49,7 @@ line-length-requires : tie.Need-line-length-requires Inv-loop μ-loop
 line-length-requires c κs = search needs
 
 add-sum-2 : tie.Need-add-sum-2 Inv-loop μ-loop
-add-sum-2 c = let r = allowed-rows (c .before .before .before .before .before .before .args .table .now) (c .before .before .before .before .before .before .pre) in omega arith
+add-sum-2 c = let r = length-within _ (c .before .before .before .before .before .before .args .table .now) (c .before .before .before .before .before .before .pre) in omega arith
 
 add-i : tie.Need-add-i Inv-loop μ-loop
 add-i c = search needs

@@ -2,7 +2,7 @@
 -- Assumes nothing.
 use native.Mathlib.Omega.{arith}
 use Rattle.files.specs.Files.{line}
-use Rattle.files.proofs.Forms.{allowed-rows}
+use Rattle.meaning.proofs.Tables.{length-within}
 use Rattle.files.proofs.Written.{bytes-length, table-laid}
 use borrow.Author.Needs.{needs}
 use Rattle.files.proofs.writer.put_table.Statement.{statement}
@@ -19,7 +19,7 @@ slice-aggregate-put-line-2 : tie.Need-slice-aggregate-put-line-2
 slice-aggregate-put-line-2 c = search needs
 
 cast-put-line : tie.Need-cast-put-line
-cast-put-line c = omega (arith, allowed-rows (c .before .before .before .before .before .before .before .before .before .args .table .now) (c .before .before .before .before .before .before .before .before .before .pre .0) .2)
+cast-put-line c = omega (arith, length-within _ (c .before .before .before .before .before .before .before .before .before .args .table .now) (c .before .before .before .before .before .before .before .before .before .pre .0) .2)
 
 put-line-requires-2 : tie.Need-put-line-requires-2
 unfolding line

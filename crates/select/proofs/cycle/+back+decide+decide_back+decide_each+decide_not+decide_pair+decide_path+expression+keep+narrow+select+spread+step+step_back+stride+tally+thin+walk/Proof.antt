@@ -68,7 +68,7 @@ pub +back+decide+decide-back+decide-each+decide-not+decide-pair+decide-path+expr
     (λ t. decide-pair-lts.spec (decide-pair-calls t) (decide-pair-at t) decide-pair.Post (DecidePair.sub-row t) (DecidePair.first-link-requires t) (DecidePair.second-link-requires t) (DecidePair.row-count-requires t) (DecidePair.decide-requires t) (DecidePair.raise-requires t) (DecidePair.add-decide t) (DecidePair.decide-requires-2 t) (DecidePair.lower-requires t) (DecidePair.same-length t) (DecidePair.returns t))
     (λ t. decide-path-lts.spec (decide-path-calls t) (decide-path-at t) decide-path.Post (DecidePath.sub-first-link t) (DecidePath.first-link-requires t) (DecidePath.decide-each-requires t) (DecidePath.same-length t) (DecidePath.returns t) (DecidePath.sub-top t) (DecidePath.field-at-requires t) (DecidePath.tally-requires t) (DecidePath.row-count-requires t) (DecidePath.below-requires t) (DecidePath.settle-all-requires t) (DecidePath.same-length-2 t) (DecidePath.returns-2 t) (DecidePath.first-link-requires-2 t) (DecidePath.counts-requires t) (DecidePath.decide-each-requires-2 t) (DecidePath.same-length-3 t) (DecidePath.returns-3 t) (DecidePath.decide-back-requires t) (DecidePath.same-length-4 t) (DecidePath.returns-4 t))
     (λ t. expression-lts.spec (expression-calls t) (expression-at t) expression.Post (Expression.returns t) (Expression.sub-row t) (Expression.field-at-requires t) (Expression.index-or-axis-requires t) (Expression.first-link-requires t) (Expression.is-over-path-requires t) (Expression.tally-requires t) (Expression.apply-requires t) (Expression.returns-2 t) (Expression.takes-second-requires t) (Expression.second-link-requires t) (Expression.expression-requires t) (Expression.is-decided-requires t) (Expression.apply-requires-2 t) (Expression.returns-3 t) (Expression.expression-requires-2 t) (Expression.apply-requires-3 t) (Expression.returns-4 t) (Expression.takes-first-requires t) (Expression.expression-requires-3 t) (Expression.apply-requires-4 t) (Expression.returns-5 t) (Expression.apply-requires-5 t) (Expression.returns-6 t))
-    (λ t. keep-lts.spec (keep-calls t) (keep-at t) keep.Post Keep.Inv-loop Keep.μ-loop (Keep.returns t) (Keep.sub-row t) (Keep.first-link-requires t) (Keep.keep-requires t) (Keep.second-link-requires t) (Keep.float-of-requires t) (Keep.loop-holds t) (Keep.mul-y t) (Keep.slice-read-y t) (Keep.add-float-of t) (Keep.float-of-requires-2 t) (Keep.wide-requires t) (Keep.expression-requires t) (Keep.keeps-requires t) (Keep.mul-list t) (Keep.slice-write-list t) (Keep.add-m t) (Keep.add-i t) (Keep.loop-less t) (Keep.loop-again t) (Keep.same-length t) (Keep.returns-2 t))
+    (λ t. keep-lts.spec (keep-calls t) (keep-at t) keep.Post Keep.Inv-loop Keep.μ-loop (Keep.returns t) (Keep.sub-row t) (Keep.first-link-requires t) (Keep.keep-requires t) (Keep.second-link-requires t) (Keep.float-of-requires t) (Keep.loop-holds t) (Keep.mul-y t) (Keep.slice-read-y t) (Keep.cast-node t) (Keep.add-float-of t) (Keep.float-of-requires-2 t) (Keep.expression-requires t) (Keep.keeps-requires t) (Keep.mul-list t) (Keep.slice-write-list t) (Keep.add-m t) (Keep.add-i t) (Keep.loop-less t) (Keep.loop-again t) (Keep.same-length t) (Keep.returns-2 t))
     (λ t. narrow-lts.spec (narrow-calls t) (narrow-at t) narrow.Post (Narrow.returns t) (Narrow.row-count-requires t) (Narrow.slice-aggregate-settle t) (Narrow.settle-requires t) (Narrow.slice-aggregate-thin t) (Narrow.thin-requires t) (Narrow.slice-aggregate-retain t) (Narrow.retain-requires t) (Narrow.same-length t) (Narrow.returns-2 t))
     (λ t. select-lts.spec (select-calls t) (select-at t) select.Post (Select.returns t) (Select.sub-top t) (Select.field-at-requires t) (Select.start-mark-requires t) (Select.first-link-requires t) (Select.walk-requires t) (Select.same-length t) (Select.returns-2 t))
     (λ t. spread-lts.spec (spread-calls t) (spread-at t) spread.Post (Spread.list-candidates-requires t) (Spread.keep-requires t) (Spread.add-marks-requires t) (Spread.same-length t) (Spread.same-length-2 t) (Spread.returns t))

@@ -2,7 +2,7 @@
 -- the first i, and what follows is still to come. The loop's measure is what is left of the list.
 -- Assumes nothing.
 use Prim.Native.Nat.{ℕ, _-_, _<_, _≤_}
-use mathlib.Core.Path.{_≡_, ap, _∙_}
+use mathlib.Core.Path.{_≡_, refl, ap, _∙_}
 use mathlib.Core.Logic.{⊎-elim}
 use lib.ListN.{length, length-set}
 use lib.Seq.{length-take-le}
@@ -55,18 +55,18 @@ module _ (t : ℕ) where
   pub slice-read-y : lts.Need-slice-read-y (calls t) (given t) reads.Post Inv-loop μ-loop
   slice-read-y c = search needs
 
+  pub cast-node : lts.Need-cast-node (calls t) (given t) reads.Post Inv-loop μ-loop
+  cast-node c = omega (arith, c .slice-known3 .given (c .before .before .loop .i))
+
   pub add-float-of : lts.Need-add-float-of (calls t) (given t) reads.Post Inv-loop μ-loop
   add-float-of c = search needs
 
   pub float-of-requires-2 : lts.Need-float-of-requires-2 (calls t) (given t) reads.Post Inv-loop μ-loop
   float-of-requires-2 c κs = search needs
 
-  pub wide-requires : lts.Need-wide-requires (calls t) (given t) reads.Post Inv-loop μ-loop
-  wide-requires c κs = search needs
-
   pub expression-requires : lts.Need-expression-requires (calls t) (given t) reads.Post Inv-loop μ-loop
   expression-requires c κs =
-      let second-link = c .before .before .before .before .before .before in
+      let second-link = c .before .before .before .before .before in
       let else1 = second-link .before .before .before .before .before .before in
       let start = else1 .before .before .before .before .before in
       (omega (arith, start .pre, second-link .second-link .ensures, else1 .if1 .left), lower _ _ _ (start .pre .1 .0) (omega (arith, start .pre, second-link .second-link .ensures, else1 .if1 .left)))
@@ -92,8 +92,7 @@ module _ (t : ℕ) where
   pub loop-again : lts.Need-loop-again (calls t) (given t) reads.Post Inv-loop μ-loop
   loop-again c =
       let ev = c .before .before in
-      let wi = ev .before in
-      let f2 = wi .before in
+      let f2 = ev .before in
       let lo = f2 .before .before .before in
       let fl = lo .before in
       let ke = fl .before .before .before .before in
@@ -105,14 +104,14 @@ module _ (t : ℕ) where
         omega arith,
         ap length (w .1) ∙ simp length-set (lo .loop .inv .2),
         rw (w .1, w .2) (kept-more _ _ _ _ _ _ (lo .loop .inv .3) (lo .loop .inv .0) more fit
-            (kept-by _ _ _ _ _ _ _ _ _ _ _ _ _ _ (wi .wide .ensures .0) (f2 .float-of2 .ensures .0) (fl .float-of .ensures .0) (ev .expression .ensures) (c .before .keeps .ensures) (w .0 .taken))),
+            (kept-by _ _ _ _ _ _ _ _ _ _ _ _ _ _ refl (f2 .float-of2 .ensures .0) (fl .float-of .ensures .0) (ev .expression .ensures) (c .before .keeps .ensures) (w .0 .taken))),
       ))
       (λ w. (
         omega (arith, lo .loop .inv),
         omega arith,
         ap length (w .1) ∙ lo .loop .inv .2,
         rw (w .1, w .2) (kept-skip _ _ _ _ _ _ (lo .loop .inv .3) more fit
-            (kept-by _ _ _ _ _ _ _ _ _ _ _ _ _ _ (wi .wide .ensures .0) (f2 .float-of2 .ensures .0) (fl .float-of .ensures .0) (ev .expression .ensures) (c .before .keeps .ensures) (w .0 .left))),
+            (kept-by _ _ _ _ _ _ _ _ _ _ _ _ _ _ refl (f2 .float-of2 .ensures .0) (fl .float-of .ensures .0) (ev .expression .ensures) (c .before .keeps .ensures) (w .0 .left))),
       ))
       (c .if2 .came)
 

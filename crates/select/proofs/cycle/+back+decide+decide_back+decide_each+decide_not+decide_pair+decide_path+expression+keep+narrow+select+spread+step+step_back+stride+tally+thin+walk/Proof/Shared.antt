@@ -59,7 +59,6 @@ use Rattle.select.proofs.cycle.walk.Reads as walk
 use Rattle.select.proofs.cycle.walk.Kinds as walk-kinds
 use Rattle.select.proofs.cycle.+back+decide+decide_back+decide_each+decide_not+decide_pair+decide_path+expression+keep+narrow+select+spread+step+step_back+stride+tally+thin+walk.Lts-walk as walk-lts
 use Rattle.basics.proofs.below.Reads as below-reads
-use Rattle.basics.proofs.wide.Reads as wide-reads
 use Rattle.counting.proofs.counting.Reads as counting-reads
 use Rattle.counting.proofs.counts.Reads as counts-reads
 use Rattle.counting.proofs.is_heavy.Reads as is-heavy-reads
@@ -415,8 +414,6 @@ keep-calls t = (
   second-link-reads.Learnt,
   float-of-reads.Asked,
   float-of-reads.Learnt,
-  wide-reads.Asked,
-  wide-reads.Learnt,
   expression-below t,
   expression.Post,
   keeps-reads.Asked,
