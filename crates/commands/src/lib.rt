@@ -147,7 +147,7 @@ fn take_filed(file: &[u8], table: &mut [u32]) -> usize {
     written(answer.number, answer.place as usize)
 }
 
-// Sets the table; gives its length, also where there is room for less. No line has more than a text.
+// Sets the table as far as there is room; gives its length as the line says it, at most that of a text.
 fn take_table(line: &[u8], at: usize, table: &mut [u32]) -> usize {
     let length = number_at(line, at);
     read_numbers(line, at, table);

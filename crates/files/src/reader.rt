@@ -19,6 +19,9 @@ ghost use Rattle.files.specs.Parts.{begins, LineAt, Passed, HeadOf, form
 // The numbers of the largest table.
 const MOST_NUMBERS: usize = 4 * MOST_ROWS;
 
+// Those of a table that has few rows.
+const FEW_NUMBERS: usize = 4 * 1024;
+
 // The first two lines: how many rows follow, and where; or the one that is bad.
 enum Head {
     Rows(usize, usize),
@@ -173,14 +176,21 @@ fn read_into(
     hand_over(numbers, out)
 }
 
-// Reads the rows behind the first two lines. They are read into a buffer, since a broken row leaves the output as it was.
+// Reads the rows behind the first two lines. They are read into a buffer, since a broken row leaves the output as it was; few rows into a
+// short one, so that a small file does not wait for room for the largest to be cleared.
 fn read_rows(file: &[u8], at: usize, count: usize, out: &mut [u32]) -> WideAnswer
     requires { ⌜ HeadOf (now file) (Head.Rows count at) ⌝ }
     ensures { λ r. ⌜ ReadsTable mostRows (now (file .entry)) (now (out .entry)) (answer (r .number) (r .place)) (now (out .exit)) ⌝ }
 {
-    let mut space = [0u32; MOST_NUMBERS];
-    let buffer: &mut [u32] = &mut space;
-    read_into(file, at, count, &mut buffer[..4 * count], out)
+    let numbers = 4 * count;
+    if numbers <= FEW_NUMBERS {
+        let mut few = [0u32; FEW_NUMBERS];
+        let part: &mut [u32] = &mut few;
+        return read_into(file, at, count, &mut part[..numbers], out);
+    }
+    let mut all = [0u32; MOST_NUMBERS];
+    let part: &mut [u32] = &mut all;
+    read_into(file, at, count, &mut part[..numbers], out)
 }
 
 // 20 with the first bad line, 21 with the numbers needed, 2 with the lowest broken row, 0 with the numbers written.
