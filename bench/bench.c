@@ -3,15 +3,18 @@
  *   bench [CAP [SHAPE]]   CAP: seconds that one run may take (default 10);
  *                         SHAPE: that shape of document alone
  *
- * Writes Markdown: for each shape of document a row for each query, with our
- * times at four sizes, the two others' at the largest, how each grows from
- * the smallest to the largest size, and ours over the faster of the two.
- * Each cell runs in a process of its own, which the cap can end. Quick cells
- * are run in several rounds through all queries, sizes and engines, and the
- * least time counts: a machine that is slow for a while slows no single cell.
+ * Writes Markdown: for each shape of document a row for each query. First, as
+ * in earlier results, our times at four sizes, the two others' at the fourth,
+ * how each grows from the first size to the fourth, and ours over the faster of
+ * the two; then all three at the largest size, and ours over the faster there.
+ * A size above BT_ROWS is not run and shown as a dash. Each cell runs in a
+ * process of its own, which the cap can end. Quick cells are run in several
+ * rounds through all queries, sizes and engines, and the least time counts: a
+ * machine that is slow for a while slows no single cell.
  */
 #include "documents.h"
 #include "engines.h"
+#include "sizes.h"
 #include "timing.h"
 
 #include <stdbool.h>
@@ -22,12 +25,12 @@
 #include <sys/wait.h>
 #include <unistd.h>
 
-enum { SIZES = 4, ENGINES = 3, MAX_ROWS = 4096 };
+enum { SIZES = 5, EARLIER = 3, LARGEST = 4, ENGINES = 3 };
 
 /* a cell that takes longer is run in one round alone */
 static const double QUICK = 0.005;
 
-static const uint32_t sizes[SIZES] = {512, 1024, 2048, 4096};
+static const uint32_t sizes[SIZES] = {512, 1024, 2048, EARLIER_ROWS, MAX_ROWS};
 static const struct engine *const engines[ENGINES] = {&ours, &pugixml, &libxml2};
 
 /* A and B stand for two names of elements that the document has, F for a floor and C for what stands beside one,
@@ -69,6 +72,9 @@ enum { QUERIES = sizeof queries / sizeof *queries };
 struct cell { bool done; double seconds; size_t selected; uint64_t mark; };
 
 static double cap = 10;
+
+/* how many of the sizes are run */
+static int sizes_run = SIZES;
 
 /* ---- one cell ---- */
 
@@ -144,9 +150,12 @@ static void run_again(struct cell *cell, const struct engine *engine, const stru
 
 /* ---- the tables ---- */
 
-static void print_time(const struct cell *cell)
+static void print_time(const struct cell *cells, int s)
 {
-    if (!cell->done)
+    const struct cell *cell = &cells[s];
+    if (s >= sizes_run)
+        printf(" - |");
+    else if (!cell->done)
         printf(" > %.0f s |", cap);
     else if (cell->seconds >= 1)
         printf(" %.2f s |", cell->seconds);
@@ -158,45 +167,86 @@ static void print_time(const struct cell *cell)
 
 static void print_growth(const struct cell *cells)
 {
-    if (cells[0].done && cells[SIZES - 1].done)
-        printf(" %.1f |", cells[SIZES - 1].seconds / cells[0].seconds);
+    if (cells[0].done && cells[EARLIER].done)
+        printf(" %.1f |", cells[EARLIER].seconds / cells[0].seconds);
     else
         printf(" |");
 }
 
-/* ours over the faster of the two others, at the largest size */
-static void print_ratio(struct cell cells[ENGINES][SIZES])
+/* ours over the faster of the two others, at one size */
+static void print_ratio(struct cell cells[ENGINES][SIZES], int s)
 {
     double best = 0;
     for (int e = 1; e < ENGINES; e++) {
-        const struct cell *cell = &cells[e][SIZES - 1];
+        const struct cell *cell = &cells[e][s];
         if (cell->done && (best == 0 || cell->seconds < best))
             best = cell->seconds;
     }
-    const struct cell *mine = &cells[0][SIZES - 1];
-    if (mine->done && best > 0)
-        printf(" %.2f |\n", mine->seconds / best);
+    const struct cell *mine = &cells[0][s];
+    if (s >= sizes_run)
+        printf(" - |");
+    else if (mine->done && best > 0)
+        printf(" %.2f |", mine->seconds / best);
     else if (mine->done)
-        printf(" < %.4f |\n", mine->seconds / cap);
+        printf(" < %.4f |", mine->seconds / cap);
     else
-        printf(best > 0 ? " > %.0f |\n" : " |\n", best > 0 ? cap / best : 0);
+        printf(best > 0 ? " > %.0f |" : " |", best > 0 ? cap / best : 0);
+}
+
+/* the head of a column: whose times, and on how many rows */
+static void print_column(const char *whose, int s)
+{
+    printf(" %s ", whose);
+    print_rows(sizes[s]);
+    printf(" |");
+}
+
+static void print_head(void)
+{
+    printf("| path | selected |");
+    for (int s = 0; s <= EARLIER; s++)
+        print_column(engines[0]->name, s);
+    printf(" growth |");
+    for (int e = 1; e < ENGINES; e++) {
+        print_column(engines[e]->name, EARLIER);
+        printf(" growth |");
+    }
+    printf(" ours / faster |");
+    for (int e = 0; e < ENGINES; e++)
+        print_column(engines[e]->name, LARGEST);
+    print_column("ours / faster", LARGEST);
+    printf("\n|---|--:|--:|--:|--:|--:|--:|--:|--:|--:|--:|--:|--:|--:|--:|--:|\n");
+}
+
+/* how many nodes are selected, as an engine that ended says */
+static void print_selected(struct cell cells[ENGINES][SIZES], int s)
+{
+    size_t selected = 0;
+    for (int e = 0; e < ENGINES; e++)
+        if (cells[e][s].done)
+            selected = cells[e][s].selected;
+    if (s < sizes_run)
+        printf(" %lu |", (unsigned long)selected);
+    else
+        printf(" - |");
 }
 
 static void print_row(const char *title, bool quoted, struct cell cells[ENGINES][SIZES])
 {
-    size_t selected = 0;
-    for (int e = 0; e < ENGINES; e++)
-        if (cells[e][SIZES - 1].done)
-            selected = cells[e][SIZES - 1].selected;
-    printf(quoted ? "| `%s` | %lu |" : "| %s | %lu |", title, (unsigned long)selected);
-    for (int s = 0; s < SIZES; s++)
-        print_time(&cells[0][s]);
+    printf(quoted ? "| `%s` |" : "| %s |", title);
+    print_selected(cells, EARLIER);
+    for (int s = 0; s <= EARLIER; s++)
+        print_time(cells[0], s);
     print_growth(cells[0]);
     for (int e = 1; e < ENGINES; e++) {
-        print_time(&cells[e][SIZES - 1]);
+        print_time(cells[e], EARLIER);
         print_growth(cells[e]);
     }
-    print_ratio(cells);
+    print_ratio(cells, EARLIER);
+    for (int e = 0; e < ENGINES; e++)
+        print_time(cells[e], LARGEST);
+    print_ratio(cells, LARGEST);
+    printf("\n");
 }
 
 /* whether all engines that ended selected the same nodes */
@@ -250,7 +300,7 @@ static void spell(const char *query, enum shape shape, char *to)
 static void run_round(enum shape shape, const char *query, int round, struct cell cells[ENGINES][SIZES])
 {
     static uint32_t table[4 * MAX_ROWS];
-    for (int s = 0; s < SIZES; s++) {
+    for (int s = 0; s < sizes_run; s++) {
         build_table(shape, sizes[s], table);
         char *xml = xml_of_table(table, sizes[s]);
         struct question question = {table, sizes[s], xml, query};
@@ -275,9 +325,7 @@ static bool run_shape(enum shape shape)
             run_round(shape, spelt[q], round, cells[q]);
         }
     printf("\n### %s\n\n", shape_names[shape]);
-    printf("| path | selected | ours 512 | ours 1,024 | ours 2,048 | ours 4,096 | growth "
-           "| pugixml 4,096 | growth | libxml2 4,096 | growth | ours / faster |\n");
-    printf("|---|--:|--:|--:|--:|--:|--:|--:|--:|--:|--:|--:|\n");
+    print_head();
     for (int q = 0; q < QUERIES; q++) {
         const char *label = queries[q].label;
         print_row(label ? label : spelt[q], label == NULL, cells[q]);
@@ -286,16 +334,26 @@ static bool run_shape(enum shape shape)
     return same;
 }
 
+static void print_opening(void)
+{
+    printf("Thread CPU time, medians, below 5 ms the least of nine; pugixml %s, libxml2 %s; cap %.0f s a\n"
+           "run. Growth is the time on ",
+           pugixml_version(), libxml2_version(), cap);
+    print_rows(sizes[EARLIER]);
+    printf(" rows over the time on %u. Ours: one bt_evaluate, all checks\n"
+           "included. The others: one evaluation of a query that was compiled before, on a document that was\n"
+           "parsed before.\n",
+           sizes[0]);
+}
+
 int main(int argc, char **argv)
 {
     bool same = true;
     if (argc > 1)
         cap = strtod(argv[1], NULL);
-    printf("Thread CPU time, medians, below 5 ms the least of nine; pugixml %s, libxml2 %s; cap %.0f s a\n"
-           "run. Growth is the time on 4,096 rows over the time on 512. Ours: one bt_evaluate, all checks\n"
-           "included. The others: one evaluation of a query that was compiled before, on a document that was\n"
-           "parsed before.\n",
-           pugixml_version(), libxml2_version(), cap);
+    while (sizes_run > 1 && sizes[sizes_run - 1] > most_rows())
+        sizes_run--;
+    print_opening();
     for (int shape = 0; shape < SHAPES; shape++)
         if (argc < 3 || strcmp(argv[2], shape_names[shape]) == 0)
             same = run_shape((enum shape)shape) && same;

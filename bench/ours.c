@@ -7,11 +7,12 @@
 #include "bargetulip.h"
 #include "engines.h"
 #include "rows.h"
+#include "sizes.h"
 
 #include <stdio.h>
 #include <stdlib.h>
 
-struct state { const uint32_t *table; uint32_t rows; struct rows path; uint32_t out[4096]; };
+struct state { const uint32_t *table; uint32_t rows; struct rows path; uint32_t out[MAX_ROWS]; };
 
 static void *open_ours(const struct question *question)
 {
@@ -31,7 +32,7 @@ static size_t run_ours(void *opened)
     uint32_t place;
     uint32_t number = bt_evaluate(BT_EDITION_2, s->table, 4 * (size_t)s->rows,
                                   s->path.path, s->path.path_len,
-                                  s->path.literals, s->path.literals_len, 0, s->out, 4096, &place);
+                                  s->path.literals, s->path.literals_len, 0, s->out, MAX_ROWS, &place);
     if (number != BT_DONE) {
         fprintf(stderr, "bench: refused with %u at %u\n", number, place);
         exit(2);

@@ -1,10 +1,12 @@
 /* plain.c: the plain loops over table files that plain.h declares. */
 #include "plain.h"
 
+#include "sizes.h"
+
 #include <stdbool.h>
 #include <string.h>
 
-enum { MAX_NODES = 4096, LONGEST_LINE = 18 };
+enum { LONGEST_LINE = 18 };
 
 /* ---- reading ---- */
 
@@ -40,7 +42,7 @@ size_t plain_read(const uint8_t *file, size_t file_len, uint32_t *out, size_t ou
     uint32_t edition, nodes;
     if (!take_line(&r, "edition=", &edition) || edition != 1 || !take_line(&r, "nodes=", &nodes))
         return 0;
-    if (nodes < 1 || nodes > MAX_NODES || out_len < 4 * (size_t)nodes)
+    if (nodes < 1 || nodes > MAX_ROWS || out_len < 4 * (size_t)nodes)
         return 0;
     for (uint32_t *row = out; row < out + 4 * (size_t)nodes; row += 4)
         if (!take_line(&r, "kind=", &row[0]) || !take_line(&r, "name=", &row[1]) ||

@@ -22,7 +22,10 @@
 #include <stdlib.h>
 #include <string.h>
 
-enum { OUT_ROOM = 4200, FENCED = 32 * 4096, AXES = 12, FEW_ROWS = 24, NUMBERS = 15, ATTRIBUTE = 5, EDITIONS = 3 };
+enum { AXES = 12, FEW_ROWS = 24, NUMBERS = 15, ATTRIBUTE = 5, EDITIONS = 3, QUESTIONS = 8 };
+
+/* numbers of an output at most, and bytes of an input: no list or path is as long as a table */
+enum { OUT_ROOM = BT_MAX_TABLE_ROWS + 100, FENCED = 4 * TABLE_ROOM };
 
 /* more work than this is left out: a few tens of milliseconds */
 static const uint64_t WORK_LIMIT = 6000000;
@@ -41,6 +44,10 @@ static uint64_t left_out;
 /* by the edition: how many evaluations were done, for how many pairs of nodes a path and its turned path were run,
  * and how many of the pairs they select */
 static uint64_t done[EDITIONS], pairs[EDITIONS], pairs_selected[EDITIONS];
+
+/* of tables with more than FORMER_ROWS rows: by the function how often it found something, how many evaluations
+ * selected a row that smaller tables don't have, and how many were left out */
+static uint64_t large_found[FUNCTIONS], large_reached, large_left_out;
 
 /* ---- inputs with a fence behind them ---- */
 
@@ -225,12 +232,41 @@ static long words_needed(enum function f, const struct input *in)
     return probe.number == 0 ? (long)probe.place[1] : 3;
 }
 
+static bool is_large(const struct input *in)
+{
+    return in->table_len > 4 * FORMER_ROWS;
+}
+
+/* whether an answer is one that an accepted table has: a part, a place on some axis, or the number 0 */
+static bool finds(enum function f, uint32_t number)
+{
+    return f == VIEW || f == PLACE ? number != 0 : number == 0;
+}
+
+/* whether an evaluation selected a row that only large tables have */
+static bool reaches_far(const struct result *r)
+{
+    return r->place[1] > 0 && r->out[MARGIN + r->place[1] - 1] >= FORMER_ROWS;
+}
+
+/* counts an answer on which both sides agree */
+static void count_answer(enum function f, const struct input *in, const struct result *r)
+{
+    seen[f][r->number]++;
+    large_found[f] += is_large(in) && finds(f, r->number);
+    if (f == EVALUATE && r->number == 0) {
+        done[in->edition]++;
+        large_reached += reaches_far(r);
+    }
+}
+
 static bool agree(enum function f, struct random *random, const struct input *in)
 {
     static struct result untouched, expected, found;
     long needed = words_needed(f, in);
     if (needed < 0) {
         left_out++;
+        large_left_out += is_large(in);
         return true;
     }
     size_t room = choose_room(random, (size_t)needed, OUT_ROOM, f == TURN);
@@ -244,9 +280,8 @@ static bool agree(enum function f, struct random *random, const struct input *in
         why = "an input was changed";
     if (why)
         report(f, why, in, room, &expected, &found);
-    seen[f][expected.number]++;
-    if (!why && f == EVALUATE && expected.number == 0)
-        done[in->edition]++;
+    else
+        count_answer(f, in, &expected);
     return !why;
 }
 
@@ -317,6 +352,14 @@ static bool turns_round(struct random *random, const struct input *in)
 
 /* ---- whole runs ---- */
 
+static void print_large(void)
+{
+    printf("over %d rows   %lu tables accepted; places found on %lu, parts viewed of %lu; %lu evaluations done, %lu of "
+           "them to rows from %d on, %lu left out\n", FORMER_ROWS, (unsigned long)large_found[CHECK_TABLE],
+           (unsigned long)large_found[PLACE], (unsigned long)large_found[VIEW], (unsigned long)large_found[EVALUATE],
+           (unsigned long)large_reached, FORMER_ROWS, (unsigned long)large_left_out);
+}
+
 static void print_summary(uint64_t cases)
 {
     for (int f = 0; f < FUNCTIONS; f++)
@@ -326,6 +369,7 @@ static void print_summary(uint64_t cases)
     for (int e = 1; e < EDITIONS; e++)
         printf("edition %d        %lu evaluations done; turned paths run from both ends of %lu pairs, %lu selected\n",
                e, (unsigned long)done[e], (unsigned long)pairs[e], (unsigned long)pairs_selected[e]);
+    print_large();
     printf("agreed: %lu inputs, %lu evaluations left out as too long\n",
            (unsigned long)cases, (unsigned long)left_out);
 }
@@ -339,13 +383,27 @@ static bool all_agree(struct random *random, const struct input *in)
     return files_agree(random, in) && turns_round(random, in);
 }
 
+/* asks for more paths on an accepted large table, since there are few of them */
+static bool more_agree(struct random *random, struct input *in)
+{
+    uint32_t place;
+    if (!is_large(in) || ref_check_table(in->table, in->table_len, &place) != 0)
+        return true;
+    for (int n = 0; n < QUESTIONS; n++) {
+        make_question(random, in);
+        if (!agree(EVALUATE, random, in) || !turns_round(random, in))
+            return false;
+    }
+    return true;
+}
+
 static int compare(unsigned long seed, unsigned long count, unsigned long first)
 {
     static struct input in;
     for (unsigned long n = first; n < first + count; n++) {
         struct random random = {(uint64_t)seed << 32 ^ n * 0x2545F4914F6CDD1Du};
         make_input(&random, &in);
-        if (!all_agree(&random, &in)) {
+        if (!all_agree(&random, &in) || !more_agree(&random, &in)) {
             printf("seed %lu, case %lu\n", seed, n);
             return 1;
         }

@@ -9,13 +9,16 @@
 #include <stdio.h>
 #include <string.h>
 
-enum { NUMBERS = 22, MORE_ROOM = 400, OUT_WORDS = FILE_ROOM / 4 + MORE_ROOM, FENCED = 80 * 4096, SHOWN = 40 };
+enum { NUMBERS = 22, MORE_ROOM = 400, OUT_WORDS = FILE_ROOM / 4 + MORE_ROOM, SHOWN = 40 };
 
 enum function { READ, WRITE };
 
 static const char *const names[] = {"bt_read_table", "bt_write_table"};
 
 static uint64_t seen[2][NUMBERS], undamaged, damaged[DAMAGES];
+
+/* how many tables with more than FORMER_ROWS rows were read and written */
+static uint64_t large[2];
 
 /* ---- one question ---- */
 
@@ -162,6 +165,7 @@ static bool agree(const struct question *q, uint64_t seed)
     if (why)
         report(why, q, &expected, &found);
     seen[q->f][expected.number]++;
+    large[q->f] += expected.number == 0 && (q->f == READ ? expected.place[1] : q->len) > 4 * FORMER_ROWS;
     return !why;
 }
 
@@ -169,7 +173,7 @@ static const void *fence(const void *from, size_t bytes)
 {
     static char *end;
     if (!end)
-        end = fenced_area(FENCED);
+        end = fenced_area(FILE_ROOM);
     return put(end, from, bytes);
 }
 
@@ -212,4 +216,6 @@ void print_files_seen(void)
         printf("%s%s:%lu", kind == DAMAGES / 2 ? "\n                 " : "  ", damage_name(kind),
                (unsigned long)damaged[kind]);
     puts("  (damage:times)");
+    printf("over %d rows   %lu files read, %lu written\n", FORMER_ROWS, (unsigned long)large[READ],
+           (unsigned long)large[WRITE]);
 }

@@ -8,7 +8,7 @@
 #include <stdlib.h>
 #include <string.h>
 
-enum { MAX_NODES = 4096, HEAD = 2, BAD_LINE = 20, NO_ROOM = 21 };
+enum { MAX_NODES = 8192, HEAD = 2, BAD_LINE = 20, NO_ROOM = 21 };
 
 /* ---- lines ---- */
 

@@ -1,4 +1,4 @@
-/* fixed.c: the cases of attributes and of editions that fixed.h speaks of.
+/* fixed.c: the cases of attributes, of editions and of the most rows that fixed.h speaks of.
  *
  * The answers were worked out by hand from documents 01 and 02. Each case is
  * asked of the archive and of the reference, so that the two cannot agree on
@@ -8,6 +8,7 @@
 #include "fixed.h"
 
 #include "bargetulip.h"
+#include "files.h"
 #include "reference.h"
 
 #include <stdbool.h>
@@ -41,17 +42,20 @@ struct side {
                      uint32_t *out, size_t out_len, uint32_t *place);
     void (*view)(const uint32_t *table, size_t table_len, const uint32_t *list, size_t list_len,
                  uint32_t node, size_t *begin, size_t *length);
+    uint32_t (*read)(const uint8_t *file, size_t file_len, uint32_t *out, size_t out_len, uint64_t *place);
+    uint32_t (*write)(const uint32_t *table, size_t table_len, uint8_t *out, size_t out_len, uint64_t *place);
 };
 
 static const struct side sides[] = {
-    {"archive", bt_check_table, bt_axis_place, bt_evaluate, bt_turn, bt_view},
-    {"reference", ref_check_table, ref_axis_place, reference_evaluate, ref_turn, ref_view},
+    {"archive", bt_check_table, bt_axis_place, bt_evaluate, bt_turn, bt_view, bt_read_table, bt_write_table},
+    {"reference", ref_check_table, ref_axis_place, reference_evaluate, ref_turn, ref_view, ref_read_table,
+     ref_write_table},
 };
 
-/* what literal n of every path is: n itself; one more, behind them, is bad */
-static const double literals[] = {0, 1, 2, -1};
+/* literals 0 to 2 of every path are themselves, the last is how many children the flat table has; one more is bad */
+static const double literals[] = {0, 1, 2, 8190, -1};
 
-enum { LITERALS = 3 };
+enum { CHILDREN = 3, LITERALS };
 
 /* ---- answers as text ---- */
 
@@ -136,7 +140,9 @@ static void ask_tables(const struct side *side)
 /* rows of paths: a step behind others or alone, a predicate that is literal n, and the whole path */
 #define STEP(previous, predicate, axis, test) 24, previous, predicate, axis, test
 #define LITERAL(n) 1, n, 0, 0, 0
+#define POSITION 2, 0, 0, 0, 0
 #define LAST 3, 0, 0, 0, 0
+#define EQUAL(left, right) 10, left, right, 0, 0
 #define PREDICATE(value) 25, 0, value, 0, 0
 #define NOT(truth) 18, truth, 0, 0, 0
 #define EXISTS(path) 20, path, 0, 0, 0
@@ -430,7 +436,7 @@ static const struct damage {
     {"a number of the table too few", "refused with 1, place 0", 43, 20, LITERALS, 1, 2},
     {"a row of the table too few", "refused with 2, place 0", 40, 20, LITERALS, 1, 2},
     {"no path", "refused with 3, place 0", 44, 0, LITERALS, 1, 2},
-    {"a bad literal", "refused with 4, place 3", 44, 20, LITERALS + 1, 1, 2},
+    {"a bad literal", "refused with 4, place 4", 44, 20, LITERALS + 1, 1, 2},
     {"a row of the path too few", "refused with 5, place 2", 44, 15, LITERALS, 1, 2},
     {"a literal too few", "refused with 5, place 0", 44, 20, 1, 1, 2},
     {"start outside", "refused with 7, place 11", 44, 20, LITERALS, 1, 11},
@@ -503,6 +509,164 @@ static void ask_turnings(const struct side *side)
     }
 }
 
+/* ---- the most rows (W-211) ---- */
+
+/* rows of the largest flat table, and of one that is too large */
+enum { MOST = 8192, TOO_MANY = MOST + 1 };
+
+/* the flat table of so many rows: element 1 and, in it, elements 2 to the last */
+static const uint32_t *flat_table(uint32_t rows)
+{
+    static uint32_t table[4 * TOO_MANY];
+    uint32_t head[] = {0, 0, 0, rows - 1, 1, 1, 0, rows - 2}, child[] = {1, 2, 1, 0};
+    memcpy(table, head, sizeof head);
+    for (uint32_t i = 2; i < rows; i++)
+        memcpy(table + 4 * i, child, sizeof child);
+    return table;
+}
+
+/* numbers of a flat table of so many rows, or some more or fewer of them */
+static const struct length { uint32_t rows; int more; const char *answer; } lengths[] = {
+    {4095, 0, "0 4095"}, {4096, 0, "0 4096"}, {4096, 1, "1 0"}, {4097, -1, "1 0"}, {4097, 0, "0 4097"},
+    {MOST - 1, 0, "0 8191"}, {MOST, -1, "1 0"}, {MOST, 0, "0 8192"}, {MOST, 1, "1 0"}, {MOST, 2, "1 0"},
+    {MOST, 3, "1 0"}, {TOO_MANY, 0, "1 0"}, {TOO_MANY, -4, "2 0"},
+};
+
+static void ask_lengths(const struct side *side)
+{
+    for (size_t i = 0; i < sizeof lengths / sizeof *lengths; i++) {
+        const struct length *l = &lengths[i];
+        size_t numbers = 4 * (size_t)l->rows + (size_t)l->more;
+        char what[TEXT], found[TEXT];
+        uint32_t answer[2];
+        answer[0] = side->check_table(flat_table(l->rows), numbers, &answer[1]);
+        spell_numbers(found, answer, 2);
+        snprintf(what, sizeof what, "flat table of %u rows, %lu numbers", l->rows, (unsigned long)numbers);
+        hold(side, what, l->answer, found);
+    }
+}
+
+/* paths from nodes of the largest flat table; an answer to more nodes than there is room for is their count */
+static const struct run flat_runs[] = {
+    {"/child::*/child::*[last()]", 0, "8191", {STEP(0, 0, 1, 1), LAST, PREDICATE(2), STEP(1, 3, 1, 1), ABSOLUTE(4)}},
+    {"/child::*/child::*[position() = 8190]", 5, "8191",
+     {STEP(0, 0, 1, 1), POSITION, LITERAL(CHILDREN), EQUAL(2, 3), PREDICATE(4), STEP(1, 5, 1, 1), ABSOLUTE(6)}},
+    {"/child::*[count(child::*) = 8190]", 8191, "1",
+     {STEP(0, 0, 1, 1), RELATIVE(1), COUNT(2), LITERAL(CHILDREN), EQUAL(3, 4), PREDICATE(5), STEP(0, 6, 1, 1),
+      ABSOLUTE(7)}},
+    {"descendant::*[8190]", 0, "8190", NUMBERED(3, 1, CHILDREN)},
+    {"descendant-or-self::node()[8190]", 0, "8189", NUMBERED(5, 0, CHILDREN)},
+    {"preceding::*[last()]", 8191, "2", {LAST, PREDICATE(1), STEP(0, 2, 8, 1), RELATIVE(3)}},
+    {"following-sibling::*[last()]", 2, "8191", {LAST, PREDICATE(1), STEP(0, 2, 9, 1), RELATIVE(3)}},
+    {"preceding-sibling::*[1]", 8191, "8190", NUMBERED(10, 1, 1)},
+    {"preceding-sibling::*[8190]", 8191, "", NUMBERED(10, 1, CHILDREN)},
+    {"ancestor-or-self::node()", 8191, "0 1 8191", ALONE(6, 0)},
+    {"child::*", 1, "refused with 8, place 8190", ALONE(1, 1)},
+    {"descendant-or-self::node()", 0, "refused with 8, place 8192", ALONE(5, 0)},
+    {"self::*", 8192, "refused with 7, place 8192", ALONE(0, 1)},
+};
+
+/* places in the largest flat table */
+static const struct { uint32_t axis, x, y; const char *answer; } flat_places[] = {
+    {1, 1, 8191, "8190"}, {3, 0, 8191, "8191"}, {5, 0, 8191, "8192"}, {8, 8191, 2, "8189"}, {9, 2, 8191, "8189"},
+    {10, 8191, 4096, "4095"}, {7, 4095, 8191, "4096"}, {1, 1, 8192, "0"},
+};
+
+static void ask_flat_runs(const struct side *side)
+{
+    const uint32_t *flat = flat_table(MOST);
+    for (size_t i = 0; i < sizeof flat_runs / sizeof *flat_runs; i++) {
+        struct call call = {BT_EDITION_2, flat, flat_runs[i].path, 4 * MOST, path_length(flat_runs[i].path), LITERALS,
+                            OUT_ROOM, flat_runs[i].start};
+        hold_call(side, flat_runs[i].what, &call, flat_runs[i].answer);
+    }
+    for (size_t i = 0; i < sizeof flat_places / sizeof *flat_places; i++) {
+        char found[TEXT];
+        uint32_t place = side->axis_place(flat, 4 * MOST, flat_places[i].axis, flat_places[i].x, flat_places[i].y);
+        spell_numbers(found, &place, 1);
+        hold(side, "a place in the flat table", flat_places[i].answer, found);
+    }
+}
+
+/* all nodes of the largest flat table, selected into just enough room, and their part below node 1 */
+static void ask_flat_whole(const struct side *side)
+{
+    static const uint32_t path[5 * PATH_ROWS] = ALONE(5, 0);
+    static uint32_t out[MOST];
+    const uint32_t *flat = flat_table(MOST);
+    char found[TEXT];
+    uint32_t place, number, ascending = 0;
+    size_t part[2];
+    number = side->evaluate(BT_EDITION_2, flat, 4 * MOST, path, path_length(path), literals, 0, 0, out, MOST, &place);
+    while (ascending < MOST && out[ascending] == ascending)
+        ascending++;
+    side->view(flat, 4 * MOST, out, MOST, 1, &part[0], &part[1]);
+    uint32_t answer[] = {number, place, ascending, (uint32_t)part[0], (uint32_t)part[1]};
+    spell_numbers(found, answer, 5);
+    hold(side, "all nodes of the flat table, and a view", "0 8192 8192 1 8191", found);
+}
+
+/* ---- files of the most rows ---- */
+
+/* a file of so many flat rows that says it has so many nodes; gives back its length */
+static size_t spell_file(uint8_t *to, uint32_t rows, uint32_t nodes)
+{
+    static const char *const keys[4] = {"kind", "name", "parent", "size"};
+    const uint32_t *flat = flat_table(rows);
+    int len = snprintf((char *)to, 2 * LINE_ROOM, "edition=1\nnodes=%u\n", nodes);
+    for (uint32_t i = 0; i < 4 * rows; i++)
+        len += snprintf((char *)to + len, LINE_ROOM + 1, "%s=%u\n", keys[i % 4], flat[i]);
+    return (size_t)len;
+}
+
+/* files of flat rows: how many rows, how many nodes they say, and the answer of reading them */
+static const struct { uint32_t rows, nodes; const char *answer; } flat_files[] = {
+    {4096, 4096, "0 16384"}, {4097, 4097, "0 16388"}, {MOST, MOST, "0 32768"}, {MOST, MOST - 1, "20 32767"},
+    {MOST - 1, MOST, "20 32767"}, {TOO_MANY, MOST, "20 32771"}, {TOO_MANY, TOO_MANY, "20 2"}, {MOST, TOO_MANY, "20 2"},
+};
+
+/* reads each, and writes what was read, which must give the file again */
+static void ask_flat_files(const struct side *side)
+{
+    static uint8_t file[FILE_BYTES(TOO_MANY)], back[FILE_BYTES(TOO_MANY)];
+    static uint32_t table[4 * TOO_MANY];
+    for (size_t i = 0; i < sizeof flat_files / sizeof *flat_files; i++) {
+        char what[TEXT], found[TEXT];
+        size_t len = spell_file(file, flat_files[i].rows, flat_files[i].nodes);
+        uint64_t read, written;
+        uint32_t number = side->read(file, len, table, 4 * TOO_MANY, &read);
+        snprintf(what, sizeof what, "a file of %u rows, nodes=%u", flat_files[i].rows, flat_files[i].nodes);
+        snprintf(found, sizeof found, "%u %lu", number, (unsigned long)read);
+        hold(side, what, flat_files[i].answer, found);
+        if (number != 0)
+            continue;
+        number = side->write(table, read, back, sizeof back, &written);
+        bool same = number == 0 && written == len && memcmp(back, file, len) == 0;
+        hold(side, what, "written back", same ? "written back" : "not written back");
+    }
+}
+
+/* the largest flat table is written into no room, which says its bytes, and one that is too large not at all */
+static void ask_flat_bytes(const struct side *side, uint32_t rows, const char *answer)
+{
+    uint8_t none[1];
+    uint64_t place;
+    char found[TEXT];
+    uint32_t number = side->write(flat_table(rows), 4 * (size_t)rows, none, 0, &place);
+    snprintf(found, sizeof found, "%u %lu", number, (unsigned long)place);
+    hold(side, "a flat table written into no room", answer, found);
+}
+
+static void ask_most_rows(const struct side *side)
+{
+    ask_lengths(side);
+    ask_flat_runs(side);
+    ask_flat_whole(side);
+    ask_flat_files(side);
+    ask_flat_bytes(side, MOST, "21 245787");
+    ask_flat_bytes(side, TOO_MANY, "1 0");
+}
+
 int fixed(void)
 {
     for (size_t i = 0; i < sizeof sides / sizeof *sides; i++) {
@@ -516,6 +680,7 @@ int fixed(void)
         ask_edition_runs(&sides[i]);
         ask_damages(&sides[i]);
         ask_turnings(&sides[i]);
+        ask_most_rows(&sides[i]);
     }
     printf("fixed: %d answers, %d different\n", answers, differences);
     return differences != 0;

@@ -1,4 +1,4 @@
-/* fixed.h: cases of attributes and of editions with their answers, as documents 01 and 02 have them. */
+/* fixed.h: cases of attributes, of editions and of the most rows, with their answers by documents 01 and 02. */
 #ifndef FIXED_H
 #define FIXED_H
 

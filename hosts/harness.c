@@ -10,6 +10,7 @@ enum { PAGE = 4096 };
 
 char *fenced_area(size_t bytes)
 {
+    bytes = (bytes + PAGE - 1) / PAGE * PAGE;
     char *area = mmap(NULL, bytes + PAGE, PROT_READ | PROT_WRITE, MAP_PRIVATE | MAP_ANONYMOUS, -1, 0);
     if (area == MAP_FAILED || mprotect(area + bytes, PAGE, PROT_NONE) != 0) {
         puts("compare: no memory");

@@ -7,7 +7,7 @@
 /* words with known content on each side of an output */
 enum { MARGIN = 16 };
 
-/* the end of an area of so many bytes, a multiple of a page, in front of a page that cannot be touched */
+/* the end of an area of so many bytes or more, in front of a page that cannot be touched */
 char *fenced_area(size_t bytes);
 
 /* a copy of some bytes that ends where an area does */

@@ -50,7 +50,10 @@ static uint32_t closing(struct random *random, enum shape shape, uint32_t open)
 }
 
 /* a table under construction: the open nodes, the root first, and the kind of the last child of each */
-struct grower { struct random *random; uint32_t *table, rows, open, path[4096], last[4096]; };
+struct grower {
+    struct random *random;
+    uint32_t *table, rows, open, path[BT_MAX_TABLE_ROWS], last[BT_MAX_TABLE_ROWS];
+};
 
 /* adds a row under the innermost open node */
 static void grow_named(struct grower *g, uint32_t kind, uint32_t name)
@@ -412,6 +415,38 @@ static void make_attribute_path(struct random *random, struct input *in)
     in->path_len = 5 * (size_t)b.rows;
 }
 
+/* a predicate about the literal 0: the node at that position, those before it, from it on and so on, or the last but so
+ * many */
+static uint32_t far_predicate(struct builder *b)
+{
+    uint32_t literal = add_row(b, 1, 0, 0, 0, 0), position;
+    switch (below(b->random, 4)) {
+    case 0: return add_row(b, 25, 0, literal, 0, 0);
+    case 1: return add_row(b, 25, 0, add_row(b, 5, add_row(b, 3, 0, 0, 0, 0), literal, 0, 0), 0, 0);
+    default:
+        position = add_row(b, 2, 0, 0, 0, 0);
+        return add_row(b, 25, 0, add_row(b, 10 + below(b->random, 6), position, literal, 0, 0), 0, 0);
+    }
+}
+
+/* a step to many nodes, down from the first rows or along from any, with a far predicate, and at times a step from
+ * there; needs a literal */
+static void make_far(struct random *random, struct input *in, uint32_t rows)
+{
+    static const uint32_t down[] = {1, 3, 3, 5}, along[] = {7, 7, 8, 8, 9, 10, 11};
+    struct builder b = begin_path(random, in);
+    bool first = chance(random, 50);
+    in->literals[0] = chance(random, 50) ? below(random, 4) : below(random, rows);
+    in->start = below(random, first ? 2 : rows);
+    uint32_t axis = first ? down[below(random, 4)] : along[below(random, 7)];
+    uint32_t predicate = chance(random, 80) ? far_predicate(&b) : 0;
+    uint32_t step = add_row(&b, 24, 0, predicate, axis, chance(random, 80) ? below(random, 2) : random_test(random));
+    if (chance(random, 20))
+        step = add_row(&b, 24, step, 0, some_axis(&b), random_test(random));
+    add_row(&b, 22, step, 0, 0, 0);
+    in->path_len = 5 * (size_t)b.rows;
+}
+
 /* a path of bare steps, with exactly so many rows: the longest that can be turned, and longer */
 static void make_bare(struct random *random, struct input *in, uint32_t rows)
 {
@@ -433,7 +468,8 @@ static double from_bits(uint64_t bits)
 
 static double random_literal(struct random *random)
 {
-    static const double usual[] = {0, 0.5, 1, 1, 2, 2, 3, 4, 1.5, 0.1, 10, 4095, 4096, 1e300, 1.7976931348623157e308, 5e-324};
+    static const double usual[] = {0, 0.5, 1, 1, 2, 2, 3, 4, 1.5, 0.1, 10, 4095, 4096, 8190, 8191,
+                                   1e300, 1.7976931348623157e308, 5e-324};
     if (chance(random, 10))
         return from_bits(((uint64_t)any(random) << 32 | any(random)) % 0x7FF0000000000000u);
     return usual[below(random, sizeof usual / sizeof *usual)];
@@ -606,9 +642,12 @@ static void drop_elements(struct random *random, uint32_t *table, uint32_t rows)
 static void damage_table(struct random *random, struct input *in)
 {
     uint32_t rows = (uint32_t)(in->table_len / 4), class = below(random, 100);
-    static const size_t lengths[] = {0, 1, 3, 5, 7, 4 * 4097, 4 * 4096 + 1, 4 * 4099};
+    static const size_t lengths[] = {
+        0, 1, 3, 5, 7, 4 * FORMER_ROWS, 4 * FORMER_ROWS + 1, 4 * FORMER_ROWS + 4, 4 * BT_MAX_TABLE_ROWS - 4,
+        4 * BT_MAX_TABLE_ROWS, 4 * BT_MAX_TABLE_ROWS + 1, 4 * BT_MAX_TABLE_ROWS + 4, 4 * BT_MAX_TABLE_ROWS + 12
+    };
     if (class < 14) {
-        in->table_len = lengths[below(random, 8)];
+        in->table_len = lengths[below(random, sizeof lengths / sizeof *lengths)];
     } else if (class < 22) {
         in->table_len += below(random, 9);
     } else if (class < 46) {
@@ -690,14 +729,19 @@ static void damage_list(struct random *random, struct input *in)
 
 static uint32_t table_rows(struct random *random)
 {
+    static const uint32_t limits[] = {BT_MAX_TABLE_ROWS, BT_MAX_TABLE_ROWS - 1, FORMER_ROWS + 1, FORMER_ROWS};
     uint32_t class = below(random, 100);
     if (class < 50)
         return 2 + below(random, 11);
     if (class < 82)
         return 2 + below(random, 59);
-    if (class < 96)
+    if (class < 94)
         return 2 + below(random, 599);
-    return class == 99 ? 4096 - below(random, 2) : 2 + below(random, 4095);
+    if (class < 96)
+        return 2 + below(random, FORMER_ROWS - 1);
+    if (class < 99)
+        return FORMER_ROWS + 1 + below(random, BT_MAX_TABLE_ROWS - FORMER_ROWS);
+    return limits[below(random, 4)];
 }
 
 static void any_path(struct random *random, struct input *in)
@@ -734,6 +778,18 @@ static uint32_t any_edition(struct random *random)
     if (chance(random, 92))
         return 1 + below(random, 2);
     return chance(random, 75) ? others[below(random, 3)] : any(random);
+}
+
+void make_question(struct random *random, struct input *in)
+{
+    uint32_t rows = (uint32_t)(in->table_len / 4);
+    make_literals(random, in);
+    in->start = any_node(random, rows);
+    in->edition = 1 + below(random, 2);
+    if (in->literals_len > 0 && chance(random, 80))
+        make_far(random, in, rows);
+    else
+        any_path(random, in);
 }
 
 void make_input(struct random *random, struct input *in)

@@ -6,11 +6,22 @@
 #ifndef INPUTS_H
 #define INPUTS_H
 
+#include "bargetulip.h"
+
 #include <stdbool.h>
 #include <stddef.h>
 #include <stdint.h>
 
-enum { TABLE_ROOM = 4 * 4108, PATH_ROOM = 5 * 260, LITERAL_ROOM = 72, LIST_ROOM = 4200 };
+/* the most rows of a table before W-211: some tables, lengths and files are just around it */
+enum { FORMER_ROWS = 4096 };
+
+/* room for what is accepted and for what damage adds */
+enum {
+    TABLE_ROOM = 4 * (BT_MAX_TABLE_ROWS + 12),
+    PATH_ROOM = 5 * 260,
+    LITERAL_ROOM = 72,
+    LIST_ROOM = BT_MAX_TABLE_ROWS + 8
+};
 
 struct random { uint64_t state; };
 
@@ -28,7 +39,7 @@ uint32_t any(struct random *random);                    /* any number */
 uint32_t below(struct random *random, uint32_t limit);  /* 0 to limit - 1 */
 bool chance(struct random *random, uint32_t percent);
 
-/* an accepted table with that many rows, 2 to 4,096; so many of its elements in a hundred have attributes if
+/* an accepted table with that many rows, 2 to 8,192; so many of its elements in a hundred have attributes if
  * there is room */
 void make_table(struct random *random, struct input *in, uint32_t rows, enum shape shape, uint32_t attributes);
 
@@ -38,5 +49,9 @@ void make_path(struct random *random, struct input *in, uint32_t rows, bool full
 
 /* a whole input: sound, or with damage in one place or more */
 void make_input(struct random *random, struct input *in);
+
+/* other literals, another path, start and edition for the same table, all sound but for few starts; most of the paths
+ * have a step to many nodes and keep some that may be far */
+void make_question(struct random *random, struct input *in);
 
 #endif

@@ -148,7 +148,8 @@ static void miscount(struct random *random, struct table_file *file)
 {
     struct span line = nodes_line(file);
     unsigned long rows = rows_from(file, line.end);
-    unsigned long counts[] = {rows - 1, rows + 1, 0, 1, 4096, 4097, 4294967298, 4294967296 + rows};
+    unsigned long counts[] = {rows - 1, rows + 1, 0, 1, FORMER_ROWS, FORMER_ROWS + 1, BT_MAX_TABLE_ROWS,
+                              BT_MAX_TABLE_ROWS + 1, 4294967298, 4294967296 + rows};
     char value[40];
     if (chance(random, 15))
         snprintf(value, sizeof value, "1844674407370955%lu", 1616 + rows);

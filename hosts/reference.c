@@ -11,7 +11,7 @@
 #include <stdlib.h>
 #include <string.h>
 
-enum { MAX_NODES = 4096, MAX_ROWS = 256, MAX_LITERALS = 64, MAX_DEPTH = 8 };
+enum { MAX_NODES = 8192, MAX_ROWS = 256, MAX_LITERALS = 64, MAX_DEPTH = 8 };
 
 /* ---- tables ---- */
 
@@ -129,12 +129,9 @@ static bool other_row_holds(const uint32_t *table, uint64_t i)
     return name_holds(row) && parent_holds(table, i) && siblings_hold(table, i) && attributes_hold(table, i);
 }
 
-uint32_t ref_check_table(const uint32_t *table, size_t table_len, uint32_t *place)
+/* number 2 with the lowest broken row, or 0 with the row count */
+static uint32_t check_each_row(const uint32_t *table, uint64_t rows, uint32_t *place)
 {
-    uint64_t rows = table_len / 4;
-    *place = 0;
-    if (table_len % 4 != 0 || rows < 1 || rows > MAX_NODES)
-        return 1;
     for (uint64_t i = 0; i < rows; i++) {
         *place = (uint32_t)i;
         if (i == 0 ? !root_row_holds(table, rows) : !other_row_holds(table, i))
@@ -142,6 +139,24 @@ uint32_t ref_check_table(const uint32_t *table, size_t table_len, uint32_t *plac
     }
     *place = (uint32_t)rows;
     return 0;
+}
+
+/* the last table and its answer are kept: one is asked for many times, and its check takes a square of the rows */
+uint32_t ref_check_table(const uint32_t *table, size_t table_len, uint32_t *place)
+{
+    static uint32_t kept[4 * MAX_NODES], kept_number, kept_place;
+    static size_t kept_len;
+    uint64_t rows = table_len / 4;
+    *place = 0;
+    if (table_len % 4 != 0 || rows < 1 || rows > MAX_NODES)
+        return 1;
+    if (table_len != kept_len || memcmp(table, kept, table_len * sizeof *table) != 0) {
+        memcpy(kept, table, table_len * sizeof *table);
+        kept_len = table_len;
+        kept_number = check_each_row(table, rows, &kept_place);
+    }
+    *place = kept_place;
+    return kept_number;
 }
 
 /* ---- the linked tree (section 5, Data Model) ---- */
@@ -765,7 +780,7 @@ static void take_step(struct run *run, const struct step *step, struct node *fro
 static node_set select_path(struct run *run, const struct path *path, struct node *from)
 {
     node_set set = calloc(run->count, 1);
-    struct node **list = calloc(run->count, sizeof *list);
+    struct node **list = malloc(run->count * sizeof *list);
     set[path->absolute ? 0 : from->order] = 1;
     run->work += run->count;
     for (const struct step *step = path->first; step && !too_long(run); step = step->next) {

@@ -1,4 +1,4 @@
-/* stress.c: long, chained, deep and nested paths over 4,096 rows, the most attributes, and the longest files.
+/* stress.c: long, chained, deep and nested paths over 8,192 rows, the most attributes, and the longest files.
  *
  * Each case runs the archive in a thread whose stack is exactly 1 MiB, above a
  * page that cannot be touched, and compares the answers with the reference,
@@ -19,9 +19,9 @@
 #include <string.h>
 #include <sys/mman.h>
 
-enum { ROWS = 4096, STACK = 1 << 20, PAGE = 4096, PATTERN = 0xA5, TURNED_ROOM = 5 * 256, DESCENDANT = 3 };
+enum { ROWS = BT_MAX_TABLE_ROWS, STACK = 1 << 20, PAGE = 4096, PATTERN = 0xA5, TURNED_ROOM = 5 * 256, DESCENDANT = 3 };
 
-static const uint64_t WORK_LIMIT = 300000000;
+static const uint64_t WORK_LIMIT = 1200000000;
 
 /* ---- paths, written bottom up ---- */
 
@@ -144,11 +144,27 @@ static uint32_t counting_steps(struct maker *m, int depth, int negations)
     return step;
 }
 
-/* the most stack: steps that count nested 7 deep, below as many nots as fit, decided for a set */
+/* the existence of a path of one step */
+static uint32_t existence(struct maker *m, uint32_t step)
+{
+    return row(m, 20, row(m, 22, step, 0, 0, 0), 0, 0, 0);
+}
+
+/* steps that count nested 7 deep, below as many nots as fit, decided for a set */
+static void deepest_counting(struct maker *m)
+{
+    uint32_t held = existence(m, counting_steps(m, 7, 0));
+    finish(m, self_step(m, wrap(m, 18, held, 256 - 3 - (int)m->rows)));
+}
+
+/* the most stack: paths nested 8 deep, each decided for a set and with a predicate, the last of which is below as many
+ * nots as fit */
 static void deepest(struct maker *m)
 {
-    uint32_t held = row(m, 20, row(m, 22, counting_steps(m, 7, 0), 0, 0, 0), 0, 0, 0);
-    finish(m, self_step(m, wrap(m, 18, held, 256 - 3 - (int)m->rows)));
+    uint32_t step = self_step(m, wrap(m, 18, row(m, 19, row(m, 1, 0, 0, 0, 0), 0, 0, 0), 222));
+    for (int depth = 1; depth < 8; depth++)
+        step = self_step(m, existence(m, step));
+    finish(m, step);
 }
 
 /* paths nested 8 deep: ancestors with an attribute whose element has an attribute, and so on */
@@ -238,10 +254,13 @@ static size_t on_small_stack(void *(*run)(void *), void *job)
 
 static struct input in;
 static size_t most;
+static char most_case[64];
 static int differences;
 
-static void note(bool same, size_t used)
+static void note(const char *what, bool same, size_t used)
 {
+    if (used > most)
+        snprintf(most_case, sizeof most_case, "%s", what);
     most = used > most ? used : most;
     differences += !same;
 }
@@ -269,7 +288,7 @@ static void run_stars(const char *what, const struct answers *expected)
                 memcmp(found.nodes, expected->nodes, sizeof found.nodes) == 0;
     if (!same)
         printf("DIFFERENT  %s, with stars in edition 1: evaluate %u/%u\n", what, found.evaluate, found.place[2]);
-    note(same, used);
+    note(what, same, used);
 }
 
 static void run_case(const char *what)
@@ -286,7 +305,7 @@ static void run_case(const char *what)
     printf("%s  %-48s %4lu rows, evaluate %u/%u, turn %u/%u, stack %lu KiB\n", same ? "same" : "DIFFERENT",
            what, (unsigned long)(in.path_len / 5), found.evaluate, found.place[2], found.turn,
            found.place[3], (unsigned long)(used / 1024));
-    note(same, used);
+    note(what, same, used);
     run_stars(what, &expected);
 }
 
@@ -325,7 +344,7 @@ static void run_steps(void)
     struct maker m = begin(CHAIN, 0);
     many_steps(&m, 255, 1, 1);
     run_case("255 steps down a chain");
-    m = begin(CHAIN, 4000);
+    m = begin(CHAIN, ROWS - 100);
     many_steps(&m, 255, 2, 0);
     run_case("255 steps up a chain");
     m = begin(BUSHY, 2);
@@ -350,7 +369,7 @@ static void run_predicates(void)
     struct maker m = begin(WIDE, 1);
     many_predicates(&m, 1, 2);
     run_case("[position()] chained");
-    m = begin(WIDE, 4095);
+    m = begin(WIDE, ROWS - 1);
     many_predicates(&m, 8, 3);
     run_case("[last()] chained, preceding");
     m = begin(BUSHY, 0);
@@ -392,21 +411,27 @@ static void run_nested(void)
     m = begin(BUSHY, 0);
     nested_paths(&m, 3, 1, 1, 21, 0);
     run_case("count nested 8 deep, child, from all nodes");
-    m = begin(CHAIN, 4095);
+    m = begin(CHAIN, ROWS - 1000); /* from all nodes of a chain it would take half as long as all other cases */
+    nested_paths(&m, 3, 1, 1, 21, 0);
+    run_case("count nested 8 deep, child, down a chain's end");
+    m = begin(CHAIN, ROWS - 1);
     nested_paths(&m, 4, 2, 1, 20, 0);
     run_case("existence nested 8 deep, parent, from a chain");
-    m = begin(WIDE, 4000);
+    m = begin(WIDE, ROWS - 100);
     nested_paths(&m, 0, 0, 25, 20, 0);
     run_case("existence nested 8 deep, 25 steps each");
     m = begin(CHAIN, 0);
     nested_paths(&m, 3, 1, 1, 20, 32);
     run_case("existence nested 8 deep, under 32 nots each");
-    m = begin(WIDE, 4000);
+    m = begin(WIDE, ROWS - 100);
     finish(&m, counting_steps(&m, 8, 32));
     run_case("counting steps nested 8 deep, 32 negations each");
-    m = begin(WIDE, 4000);
-    deepest(&m);
+    m = begin(WIDE, ROWS - 100);
+    deepest_counting(&m);
     run_case("counting steps nested 7 deep, below 224 nots");
+    m = begin(WIDE, ROWS - 100);
+    deepest(&m);
+    run_case("existence nested 8 deep, 222 nots in the last");
 }
 
 /* ---- attributes ---- */
@@ -449,13 +474,13 @@ static void run_many_attributes(void)
         all_attributes(65535 - 100, strides[i]);
         struct maker m = begin_path(1);
         many_steps(&m, 3, 11, 2);
-        run_known("4,094 attributes, to them, back and to them", 0, ROWS);
+        run_known("8,190 attributes, to them, back and to them", 0, ROWS);
         repeat_name(ROWS - 1, 2);
-        run_known("4,094 attributes, last name as the first", 2, ROWS - 1);
+        run_known("8,190 attributes, last name as the first", 2, ROWS - 1);
         repeat_name(ROWS - 1, ROWS - 2);
-        run_known("4,094 attributes, last name as the one before", 2, ROWS - 1);
+        run_known("8,190 attributes, last name as the one before", 2, ROWS - 1);
         repeat_name(ROWS / 2, ROWS / 2 - 1);
-        run_known("4,094 attributes, one name twice in the middle", 2, ROWS / 2);
+        run_known("8,190 attributes, one name twice in the middle", 2, ROWS / 2);
     }
 }
 
@@ -481,7 +506,7 @@ static void run_attributes(void)
     m = begin_path(1);
     many_predicates(&m, 11, 3);
     run_case("[last()] chained, attribute");
-    m = begin_with(BUSHY, 4000, 60);
+    m = begin_with(BUSHY, ROWS - 100, 60);
     nested_attributes(&m);
     run_case("existence nested 8 deep, attribute and parent");
     for (uint32_t axis = 0; axis <= 11; axis++) {
@@ -533,7 +558,7 @@ static void run_file_case(const char *what, size_t file_len)
     printf("%s  %-48s %7lu bytes, read %u/%lu, write %u/%lu, stack %lu KiB\n", same ? "same" : "DIFFERENT", what,
            (unsigned long)file_len, found.read, (unsigned long)found.read_place, found.write,
            (unsigned long)found.write_place, (unsigned long)(used / 1024));
-    note(same, used);
+    note(what, same, used);
 }
 
 /* a random table of that shape and its file; gives back the file's length */
@@ -552,6 +577,13 @@ static size_t longest_file(void)
     }
     memset(in.table, 0, 3 * sizeof *in.table); /* the root's kind, name and parent */
     in.table_len = 4 * ROWS;
+    return file_of_rows(in.table, ROWS, file);
+}
+
+/* attributes with names that need the room for all names of the checker, which the reader asks */
+static size_t attributes_file(void)
+{
+    all_attributes(65535 - 100, 1);
     return file_of_rows(in.table, ROWS, file);
 }
 
@@ -582,6 +614,7 @@ static void run_files(void)
 {
     run_file_case("file of a wide table, written and read back", random_file(WIDE));
     run_file_case("file of a bushy table, written and read back", random_file(BUSHY));
+    run_file_case("file of 8,190 attributes, written and read back", attributes_file());
     run_largest_numbers("file with the largest numbers in every row", 0);
     run_largest_numbers("file with the largest numbers in the last row", ROWS - 1);
     run_file_case("the longest file, written and read back", longest_file());
@@ -592,8 +625,8 @@ static void run_files(void)
     run_long("a million digits", 0, '1');
     run_long_behind("a million digits of the edition", "edition=1", '0');
     run_long_behind("a million digits of nodes", "edition=1\nnodes=1", '0');
-    run_long_behind("a million digits of a kind", "edition=1\nnodes=4096\nkind=1", '0');
-    run_long_behind("a million zeros of a kind", "edition=1\nnodes=4096\nkind=", '0');
+    run_long_behind("a million digits of a kind", "edition=1\nnodes=8192\nkind=1", '0');
+    run_long_behind("a million zeros of a kind", "edition=1\nnodes=8192\nkind=", '0');
 }
 
 int stress(void)
@@ -605,6 +638,7 @@ int stress(void)
     run_nested();
     run_attributes();
     run_files();
-    printf("stress: %d different; most stack used %lu KiB of 1,024\n", differences, (unsigned long)(most / 1024));
+    printf("stress: %d different; most stack used %lu KiB of 1,024, by: %s\n", differences,
+           (unsigned long)(most / 1024), most_case);
     return differences != 0;
 }
