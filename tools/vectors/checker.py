@@ -1,11 +1,11 @@
-# An independent checker, written from document 01 and document 02's W-206, W-209
-# and W-210 alone: the number and the place of check_table, check_path, turn and
+# An independent checker, written from document 01 and document 02's W-206, W-209,
+# W-210 and W-211 alone: the number and the place of check_table, check_path, turn and
 # the refusals of evaluate, the turned rows, and the part the view hands back.
 #
 # Tables and paths are flat lists of whole numbers, literals are lists of
 # 64-bit patterns.
 
-MAX_ROWS = 4096
+MAX_ROWS = 8192
 MAX_PATH_ROWS = 256
 MAX_LITERALS = 64
 MAX_DEPTH = 8
@@ -116,7 +116,10 @@ def attribute_stands(table, i, parent):
 
 def attribute_repeated(table, i, parent):
     """A lower attribute of the same parent, whose rows stand behind it, has its name."""
-    same = [ATTRIBUTE, table[4 * i + 1], parent]
+    name = table[4 * i + 1]
+    if name not in table[4 * parent + 5:4 * i:4]:
+        return False
+    same = [ATTRIBUTE, name, parent]
     return any(table[4 * j:4 * j + 3] == same for j in range(parent + 1, i))
 
 

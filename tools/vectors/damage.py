@@ -97,7 +97,7 @@ def damaged_table(rng):
 
 
 def fixed_tables(rng):
-    """Lengths and rows at the limits."""
+    """Lengths and rows at the limits; those above the program's limit are counts in the files."""
     yield from ([0] * n for n in (0, 1, 2, 3, 5, 7))
     yield [0, 0, 0, 0]
     yield [0, 0, 0, 1]
@@ -125,22 +125,22 @@ def ask_table(rng, sheet, table):
         sheet.view("damage", table, 0, entries, checker.view(table, entries, 0))
 
 
-def ask_evaluate(rng, sheet, table, path, literals, start):
+def ask_evaluate(rng, sheet, table, path, literals, start, refuse=checker.refuse_evaluate):
     """Only if refused with 1 to 7."""
-    refused = checker.refuse_evaluate(2, table, path, literals, start)
+    refused = refuse(2, table, path, literals, start)
     if refused is not None:
         room = rng.pick([0, 1, 5, 40])
         sheet.evaluate("damage", 2, table, path, literals, start, room, *refused, [])
-        ask_editions(sheet, room, table, path, literals, start)
+        ask_editions(sheet, refuse, room, table, path, literals, start)
 
 
-def ask_editions(sheet, room, *inputs):
+def ask_editions(sheet, refuse, room, *inputs):
     """Some in edition 1 and in no edition; a stream of its own leaves the others' choices alone."""
     rng = Rng(len(sheet.answers))
     editions = [1] if rng.chance(30) else []
     editions += [no_edition(rng)] if rng.chance(50) else []
     for edition in editions:
-        sheet.evaluate("damage", edition, *inputs, room, *checker.refuse_evaluate(edition, *inputs), [])
+        sheet.evaluate("damage", edition, *inputs, room, *refuse(edition, *inputs), [])
 
 
 def no_edition(rng):

@@ -9,9 +9,11 @@ import editions
 import engines
 import examples
 import known
+import limits
 import paths
 import places
 import selection
+import slips
 import tables
 import text
 import wellformed
@@ -19,6 +21,8 @@ from rng import Rng
 from sheet import Sheet
 
 SEED = 20250101
+# Remembers the last table's result.
+CHECK = slips.checker_copy()
 
 
 def ask_cases(build, cases):
@@ -28,8 +32,9 @@ def ask_cases(build, cases):
     for case in cases:
         if case["table"] != table:
             table = case["table"]
-            assert checker.check_table(table)[0] == 0
+            assert CHECK.check_table(table)[0] == 0
             questions.append(engines.document_question(table))
+        assert checker.check_path(case["path"], case["literals"])[0] == 0
         case["text"] = text.path_text(case["edition"], case["path"], case["literals"])
         questions.append(engines.eval_question(case["start"], case["text"]))
     first, second = engines.ask_both(build, questions)
@@ -69,9 +74,9 @@ def inputs_of(case):
     return [case[k] for k in ("edition", "table", "path", "literals", "start")]
 
 
-def write_case(rng, sheet, case, sort):
+def write_case(rng, sheet, case, sort, choose=choose_room):
     nodes = case["pugixml"]
-    room = len(nodes) + 2 if "expected" in case else choose_room(rng, len(nodes))
+    room = len(nodes) + 2 if "expected" in case else choose(rng, len(nodes))
     where = (*inputs_of(case), room)
     if len(nodes) > room:
         sheet.evaluate(sort, *where, 8, len(nodes), [])
@@ -82,19 +87,19 @@ def write_case(rng, sheet, case, sort):
 # ---- edition 1 ----
 
 def ask_first(rng, build, cases, log):
-    """What is asked in edition 1 behind each case of edition 2."""
+    """What is asked in edition 1 behind each case of edition 2; gives it all back."""
     for case in cases:
         case["first"] = editions.in_first(rng, case)
     asked = [first for case in cases for first in case["first"]]
     ask_cases(build, asked)
     sort_out(asked, log)
-    print("asked in edition 1 too %d, row scans %d million" % (len(asked), sum(c["scans"] for c in asked) // 1000000))
+    return asked
 
 
-def write_first(rng, sheet, case, sort):
+def write_first(rng, sheet, case, sort, choose=choose_room):
     for first in case["first"]:
         if agreed(first):
-            write_case(rng, sheet, first, sort)
+            write_case(rng, sheet, first, sort, choose)
 
 
 def write_no_edition(rng, sheet, case):
@@ -121,11 +126,15 @@ def edition_cases(rng, build, sheet, log):
 
 def all_starts(edition, name, table, path, literals):
     """Every node but attributes: turning speaks of pairs of other nodes."""
+    starts = [i for i in range(len(table) // 4) if table[4 * i] != tables.ATTRIBUTE]
+    return from_starts(edition, name, table, path, literals, starts, 30000)
+
+
+def from_starts(edition, name, table, path, literals, starts, limit):
+    """A path's case from each of these nodes, or None where one runs long."""
     cases = []
-    for start in range(len(table) // 4):
-        if table[4 * start] == tables.ATTRIBUTE:
-            continue
-        nodes, _ = selection.guess(edition, table, path, literals, start, 30000)
+    for start in starts:
+        nodes, _ = selection.guess(edition, table, path, literals, start, limit)
         if nodes is None:
             return None
         cases.append(dict(name=name, edition=edition, table=table, path=path, literals=literals,
@@ -284,6 +293,10 @@ def write_lines(name, lines):
 def report(sheet, chosen, kept, scans):
     print("evaluation cases asked %d, kept %d" % (len(chosen), len(kept)))
     print("whole-table row scans of the random cases: %d million" % (scans // 1000000))
+    print_counts(sheet)
+
+
+def print_counts(sheet):
     for key in sorted(sheet.counts):
         print("%-10s %-12s %-6s %6d" % (key + (sheet.counts[key],)))
     print("commands %d" % len(sheet.answers))
@@ -297,7 +310,8 @@ def main(build, folder):
     ask_cases(build, chooser.cases)
     kept = sort_out(chooser.cases, log)
     rng, first_rng = Rng(SEED + 2), Rng(SEED + 14)
-    ask_first(first_rng, build, kept, log)
+    asked = ask_first(first_rng, build, kept, log)
+    print("asked in edition 1 too %d, row scans %d million" % (len(asked), sum(c["scans"] for c in asked) // 1000000))
     for case in kept:
         write_case(rng, sheet, case, "engines")
         write_first(first_rng, sheet, case, "engines")
@@ -309,6 +323,7 @@ def main(build, folder):
     wellformed.add_cases(Rng(SEED + 6), sheet)
     attributes.add_cases(Rng(SEED + 8), sheet)
     edition_cases(Rng(SEED + 16), build, sheet, log)
+    limits.add_cases(sheet)
     write_lines(folder + "/stdin", sheet.commands)
     write_lines(folder + "/stdout", sheet.answers)
     write_lines(build + "/disagreements.txt", log)

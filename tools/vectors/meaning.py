@@ -104,7 +104,7 @@ class Tree:
         if axis == 1:
             return self.children[i]
         if axis == 2:
-            return self.ancestors(i)[:1]
+            return [] if self.parent[i] is None else [self.parent[i]]
         if axis == 3:
             return self.others(range(i + 1, end))
         if axis == 4:

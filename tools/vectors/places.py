@@ -39,9 +39,9 @@ def choose(rng, table):
         yield x, axis, rng.below(tree.count)
 
 
-def question(rng, table, x, axis, y):
+def question(rng, table, x, axis, y, check=checker.check_table):
     """The engines' case that bears out y's place, and the place."""
-    k = place(checker.check_table, table, axis, x, y)
+    k = place(check, table, axis, x, y)
     step = (axis, 0, examples.number(float(k))) if k else (axis, 0)
     path, literals = paths.write_path(rng, examples.relative(step), False)
     nodes, _ = selection.guess(2, table, path, literals, x, 100000)

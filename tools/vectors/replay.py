@@ -1,7 +1,7 @@
 # Reads the vector commands and answers them with checker.py and meaning.py:
 # the same reading as the program's, as a check of the files. With a slip it
 # answers as a wrong program would.
-# usage: replay.py <stdin file> <stdout file> [all | name of a slip]
+# usage: replay.py <stdin file> <stdout file> [rows that the program holds] [all | limits | name of a slip]
 # Prints how many answers differ from the stored ones; without a slip the exit
 # code is 1 if any does.
 import sys
@@ -12,20 +12,35 @@ import sheet
 import slips
 
 
+OF_TABLE = ("check_table", "place", "evaluate", "view")
+
+
 class Player:
-    def __init__(self, check, evaluator):
+    def __init__(self, check, evaluator, rows):
         self.check = check
         self.evaluator = evaluator
+        self.rows = rows
         self.state = {"table": [], "path": [], "literals": []}
+        self.met = None
 
     def line(self, words):
         """The answer to one command, or None."""
         numbers = [int(w) for w in words[1:]]
+        if words[0] == "table":
+            return self.hold(*numbers)
         if words[0] in self.state:
             assert numbers[0] == len(numbers) - 1
             self.state[words[0]] = numbers[1:]
             return None
+        if self.met and words[0] in OF_TABLE:
+            return self.met
         return getattr(self, words[0])(*numbers)
+
+    def hold(self, count, *numbers):
+        """The table, unless a limit is met; numbers that are not given are 0."""
+        assert len(numbers) <= count
+        self.met = sheet.limit_met(self.rows, count)
+        self.state["table"] = [] if self.met else [*numbers] + [0] * (count - len(numbers))
 
     def check_table(self):
         return "%d %d" % self.check.check_table(self.state["table"])
@@ -58,8 +73,8 @@ class Player:
         return "empty" if part is None else sheet.answer(*part)
 
 
-def answers(commands, check, evaluator):
-    player = Player(check, evaluator)
+def answers(commands, rows, check, evaluator):
+    player = Player(check, evaluator, rows)
     out = []
     for line in commands:
         try:
@@ -71,8 +86,8 @@ def answers(commands, check, evaluator):
     return out
 
 
-def differing(commands, expected, check, evaluator):
-    got = answers(commands, check, evaluator)
+def differing(commands, expected, rows, check, evaluator):
+    got = answers(commands, rows, check, evaluator)
     assert len(got) == len(expected)
     return sum(not same(x, y) for x, y in zip(got, expected))
 
@@ -87,17 +102,23 @@ def read(name):
         return source.read().splitlines()
 
 
-def main(commands, expected, slip):
+def main(commands, expected, rows=sheet.RATTLE_ROWS, slip=None):
     sys.setrecursionlimit(10000)
     if slip is None:
-        wrong = differing(commands, expected, slips.checker_copy(), meaning.Evaluator)
+        wrong = differing(commands, expected, rows, slips.checker_copy(), meaning.Evaluator)
         print("%d answers, %d differ" % (len(expected), wrong))
         return 1 if wrong else 0
-    for name in slips.NAMES if slip == "all" else [slip]:
-        wrong = differing(commands, expected, *slips.make(name))
+    for name in slips.names(slip):
+        wrong = differing(commands, expected, rows, *slips.make(name))
         print("%-34s %6d" % (name, wrong), flush=True)
     return 0
 
 
+def options(words):
+    """The rows held, if they are given, and the slip."""
+    given = dict(rows=int(words.pop(0))) if words and words[0].isdigit() else {}
+    return dict(given, slip=words[0]) if words else given
+
+
 if __name__ == "__main__":
-    sys.exit(main(read(sys.argv[1]), read(sys.argv[2]), sys.argv[3] if len(sys.argv) > 3 else None))
+    sys.exit(main(read(sys.argv[1]), read(sys.argv[2]), **options(sys.argv[3:])))

@@ -421,18 +421,19 @@ def long_paths(chooser, table):
         chooser.add_top("long", table, step_chain([3], number), 1)
 
 
-def full_cases(chooser, name, table, names):
+def full_cases(chooser, name, table, names, count=22):
+    rows = len(table) // 4
     fixed = fixed_big_paths()
     heavy, held = fixed[:4], attribute_big_paths()
     chooser.rng.shuffle(heavy)
     chooser.rng.shuffle(held)
     chosen = heavy[:1] + held[:2] if tables.has_attributes(table) else heavy[:2]
     for top in chosen + fixed[4:]:
-        start = chooser.rng.pick([0, 1, 2000, 4095, chooser.rng.below(4096)])
+        start = chooser.rng.pick([0, 1, 2000, rows - 1, chooser.rng.below(rows)])
         nodes = chooser.add_top(name, table, top, start, limit=2500000)
         if nodes is not None and len(nodes) > 900:
             chooser.cases.pop()
-    chooser.random_cases(name, table, names, 22, limit=400000, big=2)
+    chooser.random_cases(name, table, names, count, limit=400000, big=2)
 
 
 def choose_cases(rng):

@@ -436,6 +436,87 @@ def first_names(kind):
     return test_slip(change)
 
 
+# ---- W-211 ----
+
+# The limit before. These slips don't run long, and have no upper limit.
+OLD_ROWS = 4096
+
+
+def low(value):
+    """What is left of a number in 12 bits."""
+    return value % OLD_ROWS
+
+
+class LowPositions(meaning.Evaluator):
+    """Positions are counted in 12 bits."""
+
+    def keep(self, link, nodes):
+        size = float(len(nodes))
+        places = [(n, float(low(i + 1))) for i, n in enumerate(nodes)]
+        values = [(self.value(link, n, position, size), position, n) for n, position in places]
+        return [n for v, position, n in values if v is True or (type(v) is float and v == position)]
+
+
+class LowLast(meaning.Evaluator):
+    """last() is counted in 12 bits."""
+
+    def value(self, link, node, position, size):
+        return super().value(link, node, position, float(low(size)))
+
+
+class LowCounts(meaning.Evaluator):
+    """count() is counted in 12 bits."""
+
+    def value(self, link, *context):
+        right = super().value(link, *context)
+        return float(low(right)) if self.rows[link - 1][0] == 21 else right
+
+
+class ShortLists(meaning.Evaluator):
+    """What a path selects is a list of 4,096 nodes at most, the lowest ones."""
+
+    def path(self, link, node):
+        return set(sorted(super().path(link, node))[:OLD_ROWS])
+
+
+def with_tree(make):
+    """make(table, edition): the wrong tree."""
+    class Wrong(meaning.Evaluator):
+        def __init__(self, edition, table, *others):
+            super().__init__(edition, table, *others)
+            self.tree = make(table, edition)
+    return Wrong
+
+
+class ShortAxes(meaning.Tree):
+    """An axis ends after 4,096 nodes."""
+
+    def axis(self, i, axis):
+        return super().axis(i, axis)[:OLD_ROWS]
+
+
+class FrontNodes(meaning.Tree):
+    """Nodes from 4,096 on lie on no axis."""
+
+    def axis(self, i, axis):
+        return [n for n in super().axis(i, axis) if n < OLD_ROWS]
+
+
+class LowNodes(meaning.Tree):
+    """Nodes are kept in 12 bits."""
+
+    def axis(self, i, axis):
+        return [low(n) for n in super().axis(i, axis)]
+
+
+class LowSizes(meaning.Tree):
+    """Sizes are kept in 12 bits."""
+
+    def __init__(self, *inputs):
+        super().__init__(*inputs)
+        self.size = [low(size) for size in self.size]
+
+
 # ---- numbers and paths ----
 
 class RoundedPosition(Slip):
@@ -795,6 +876,41 @@ def low_edition(bits):
     return refusal_slip(lambda edition, others: others if edition % (1 << bits) in checker.EDITIONS else (14, edition))
 
 
+# ---- W-211 ----
+
+def front_checked(table):
+    """Only the first 4,096 rows are looked at."""
+    number, place = checker.check_table(table)
+    return (0, len(table) // 4) if number == 2 and place >= OLD_ROWS else (number, place)
+
+
+def whole_rows(table):
+    """Numbers behind the last whole row are not looked at."""
+    return checker.check_table(table[:len(table) // 4 * 4])
+
+
+def front_starts():
+    """A start of 4,096 or more is no row."""
+    right = checker_copy().refuse_evaluate
+
+    def refuse(edition, table, path, literals, start):
+        refused = right(edition, table, path, literals, start)
+        return (7, start) if refused is None and start >= OLD_ROWS else refused
+    return refuse
+
+
+def short_view():
+    """Only the first 4,096 entries are looked at."""
+    right = checker_copy().view
+    return lambda table, entries, node: right(table, entries[:OLD_ROWS], node)
+
+
+def front_view():
+    """The view of a node from 4,096 on is empty."""
+    right = checker_copy().view
+    return lambda table, entries, node: None if node >= OLD_ROWS else right(table, entries, node)
+
+
 def untested_turned(rows):
     """The leading self step tests nothing."""
     right = checker.turned_rows(rows)
@@ -926,6 +1042,18 @@ EVALUATORS = {
     "edition 1: names of attributes": first_names(ATTRIBUTE),
 }
 
+# W-211: noticed by hosts/vectors; for all but one the tables of crates/vectors are too short.
+LIMIT_EVALUATORS = {
+    "positions in 12 bits": LowPositions,
+    "last() in 12 bits": LowLast,
+    "counts in 12 bits": LowCounts,
+    "lists of 4,096 nodes at most": ShortLists,
+    "axes of 4,096 nodes at most": with_tree(ShortAxes),
+    "nodes from 4,096 on left out": with_tree(FrontNodes),
+    "nodes in 12 bits": with_tree(LowNodes),
+    "subtree sizes in 12 bits": with_tree(LowSizes),
+}
+
 CHECKERS = {
     "sizes in 32 bits": dict(parent_sound=wrapped_parent),
     "second element child allowed": dict(element_sound=always),
@@ -1010,10 +1138,27 @@ CHECKERS = {
     "test 16 allowed": dict(test_allowed=lambda t: t <= 4 or 16 <= t <= 65551),
 }
 
-NAMES = list(EVALUATORS) + list(CHECKERS)
+LIMIT_CHECKERS = {
+    "4,097 rows refused": dict(MAX_ROWS=OLD_ROWS),
+    "8,192 rows refused": dict(MAX_ROWS=8191),
+    "8,193 rows accepted": dict(MAX_ROWS=8193),
+    "lengths in whole rows": dict(check_table=whole_rows),
+    "rows from 4,096 on unchecked": dict(check_table=front_checked),
+    "starts from 4,096 on refused": dict(refuse_evaluate=front_starts()),
+    "view of 4,096 entries at most": dict(view=short_view()),
+    "view of nodes from 4,096 on empty": dict(view=front_view()),
+}
+
+LIMITS = {**LIMIT_EVALUATORS, **LIMIT_CHECKERS}
+ALL = {**EVALUATORS, **CHECKERS, **LIMITS}
+
+
+def names(word):
+    """The slips that a word stands for: all, limits or a slip's name."""
+    return list({"all": ALL, "limits": LIMITS}.get(word, [word]))
 
 
 def make(name):
-    if name in EVALUATORS:
-        return checker_copy(), EVALUATORS[name]
-    return checker_copy(**CHECKERS[name]), None
+    """The checker and the evaluator with a slip; a wrong checker is tried without evaluating."""
+    slip = ALL[name]
+    return (checker_copy(**slip), None) if isinstance(slip, dict) else (checker_copy(), slip)

@@ -84,7 +84,7 @@ def changed(letters, row, field, value):
 
 
 def far_trees():
-    """Deep, late, and at the last row of a full table; the lowest broken row, or None."""
+    """Deep, late, and at the last row of 4,096; the lowest broken row, or None."""
     yield "e(" * 60 + "t" + ")" * 59 + "ct)", None
     yield "e(" * 60 + "tt" + ")" * 60, 62
     yield "e(" + "te(t)" * 60 + "ct)", None
