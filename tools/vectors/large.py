@@ -23,6 +23,8 @@ from sheet import C_ROWS, Sheet
 SEED = generate.SEED + 211
 # The rows that tables had at most before.
 OLD = 4096
+# The first rows, of which some hold nearly all others and some stand before them.
+FIRST = 5
 # Nodes on axes and contexts that meaning.py may take for one question.
 LIMIT = 200000
 # Answers with more nodes are mostly asked with too little room.
@@ -63,9 +65,9 @@ def choose_room(rng, count):
 # ---- paths whose answers lie far ----
 
 def landmarks(rng, rows):
-    """The first rows, the last ones, those about 4,096 and the middle, and some others."""
-    some = [0, 1, 2, 3, OLD - 1, OLD, OLD + 1, rows // 2, rows - 2, rows - 1]
-    return [i for i in some if i < rows] + [rng.below(rows) for _ in range(3)]
+    """The first rows, those about 4,096, the middle, the last ones and some others."""
+    some = [*range(FIRST), OLD - 1, OLD, OLD + 1, rows // 2, rows - 3, rows - 2, rows - 1]
+    return [i for i in some if i < rows] + [rng.below(rows) for _ in range(2)]
 
 
 def long_start(rng, tree, axis):
@@ -145,7 +147,7 @@ def middle_tops(rows):
 
 def middle_cases(chooser, table):
     rows = len(table) // 4
-    for start in landmarks(chooser.rng, rows)[4:]:
+    for start in landmarks(chooser.rng, rows)[FIRST:]:
         for top in some_of(chooser.rng, middle_tops(rows), 2):
             chooser.add_top("middle", table, top, start)
 
@@ -157,8 +159,8 @@ def late_cases(chooser, tree, table):
     for axis in (4, 8, 10):
         for test in (0, 1):
             counted = Row(21, relative((axis, test)))
-            held = chooser.rng.pick([Row(14, counted, number(float(OLD))), Row(10, Row(8, counted, number(2.0)), number(1.0))])
-            chooser.add_top("late", table, absolute((3, 0, late(), held)), 0)
+            many, odd = Row(14, counted, number(float(OLD))), Row(10, Row(8, counted, number(2.0)), number(1.0))
+            chooser.add_top("late", table, absolute((3, 0, late(), chooser.rng.pick([many, odd]))), 0)
 
 
 def choose_cases(rng, name, table, names):
@@ -251,14 +253,15 @@ def holders_of(table, row):
 
 
 def views(rng, table):
-    """Nodes and lists: rows about 4,096, ones far apart, the last ones, a row too many, a row twice."""
+    """Nodes and lists: rows about 4,096, far apart, the last, about a far one; a row too many, a row twice."""
     rows = len(table) // 4
     middle = list(range(rng.between(OLD - 20, OLD - 3), min(OLD + 6, rows)))
     apart = list(range(rng.below(40), rows, rng.between(50, 70)))
     late = list(range(rows - rng.between(3, 12), rows))
     for row, entries in ((OLD, middle), (OLD, apart), (rows - 1, late), (rng.below(rows), apart), (rows - 1, apart)):
         yield rng.pick(holders_of(table, row)), entries
-    yield rng.between(OLD, rows - 1), sorted({*middle, *late})
+    far = rng.between(OLD, rows - 1)
+    yield far, list(range(far - 5, min(far + 40, rows)))
     yield 0, late + [rows]
     yield 1, apart[:-1] + apart[-2:]
     yield rows, late

@@ -12,6 +12,7 @@ import sheet
 import slips
 
 
+# What asks of the table.
 OF_TABLE = ("check_table", "place", "evaluate", "view")
 
 
