@@ -1,5 +1,7 @@
 // Is a node on an axis of another, in which order does the axis run, and does a node pass a test: each equal to its definition (document
 // 01, "Meaning"). Tests are those of edition 2; a test of another edition is read as one of them first (document 02, W-210).
+#![tactic(auto)]
+
 ghost use Rattle.std.specs.Prelude.{◌≡◌, ◌-◌, ◌<◌, get_or};
 ghost use Rattle.meaning.specs.Table.{rows, parent_of, end, is_attribute};
 ghost use Rattle.meaning.specs.Axis.{under, inside, after, on, axis_of, passes, test_of, is_reverse, ordered};

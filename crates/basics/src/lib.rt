@@ -1,5 +1,7 @@
 // Total reads of a slice, tests as values, and answers: what every other crate is written in.
 // Nothing here knows of tables or paths.
+#![tactic(auto)]
+
 ghost use Rattle.std.specs.Prelude.{◌≡◌, ◌&&◌, ◌||◌, ◌++◌, ◌<◌, ◌≤◌, eqb, ltb, leb, length, get_or, drop};
 ghost use Rattle.meaning.specs.Answers.{answer};
 

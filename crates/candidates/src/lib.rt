@@ -1,5 +1,7 @@
 // The candidates of a step from one node: the rows of an axis that pass a test, in the order of the axis. An axis whose nodes can be told
 // from the table without a scan has a small function of its own, which promises that axis's candidates; the others look at every row.
+#![tactic(auto)]
+
 ghost use Rattle.std.specs.Prelude.{◌≡◌, ◌+◌, ◌<◌, ◌≤◌, min, length, take, ◌&&◌};
 ghost use Rattle.meaning.specs.Lists.{keep};
 ghost use Rattle.meaning.proofs.Ranges.{range, own_or_plain};

@@ -1,5 +1,7 @@
 // The C interface: the public functions, exported for a C host (include/bargetulip.h). A slice passes as a pointer and a length.
 // Each returns the documents' number and stores its place, but for the two that have none; the contracts pass on what the library promises.
+#![tactic(auto)]
+
 ghost use Rattle.meaning.specs.Table.{most_rows};
 ghost use Rattle.meaning.specs.Answers.{answer};
 ghost use Rattle.meaning.specs.View.{part_from};

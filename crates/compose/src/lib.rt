@@ -1,6 +1,8 @@
 // The rows, the literals and the depth of a path text without faults, in one pass over its tokens (document 02, W-202): the machine of
 // crates/text/specs/Composing.antt with its rows, frames and literals in slices. Memory is bounded: the pass stops once more rows are
 // committed than a path may have.
+#![tactic(auto)]
+
 mod deal;
 mod desk;
 mod mode;

@@ -1,5 +1,7 @@
 // Which predicates count (document 01, "Turning round"): those that are numbers, or hold op 2 or 3 not inside a path of their own;
 // and what of a path needs a look at each node, a choice of the evaluator's.
+#![tactic(auto)]
+
 ghost use Rattle.std.specs.Prelude.{◌≡◌, ◌≤◌};
 ghost use Rattle.meaning.specs.Rows.{op_of};
 ghost use Rattle.meaning.specs.Tree.{tree};

@@ -1,4 +1,6 @@
 // Which rows a chain of steps may come by from a set of rows, by its axes and tests alone, whatever its predicates say.
+#![tactic(auto)]
+
 ghost use Rattle.std.specs.Prelude.{◌≡◌, length};
 ghost use Rattle.meaning.specs.Table.{most_rows};
 ghost use Rattle.meaning.specs.Tree.{tree};

@@ -1,4 +1,6 @@
 // A number and its digits, both ways (document 02, W-201): decimals without leading zeros, up to 4,294,967,295, in lent bytes.
+#![tactic(auto)]
+
 ghost use Rattle.std.specs.Prelude.{◌≡◌, ◌+◌, ◌-◌, ◌*◌, ◌<◌, ◌≤◌, min, length, get_or, drop};
 ghost use Rattle.decimal.specs.Decimal.{is_digit, most_number, leading, plain, digits, decimal_at, laid};
 

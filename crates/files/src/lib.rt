@@ -1,4 +1,6 @@
 // Table files (document 02, W-201): node tables as key=value lines, read into numbers and written into bytes that the caller lends.
+#![tactic(auto)]
+
 mod reader;
 mod writer;
 

@@ -1,4 +1,6 @@
 // A level of a path text under survey, its operand's sort and the fault that was found: what a token does to each of them.
+#![tactic(auto)]
+
 ghost use Rattle.std.specs.Prelude.{◌≡◌, ◌&&◌, ◌||◌, not, cond, ◌<◌, T, eqb, leb};
 ghost use Rattle.text.specs.Limited.{holds_call, result_of, is_path, number_taken, path_taken};
 ghost use Rattle.text.specs.Survey.{fresh, wants_path, bare, member_sort, level_sort, path_begun, other_begun, joined_on, union_at, operated, operator_faults, sign_faults, end_faults, function_at, sort_behind, fault_behind};

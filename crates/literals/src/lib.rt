@@ -1,4 +1,6 @@
 // Number literals of a path text (document 02, W-202): how many digits one has, its value, and where a value stands among the literals.
+#![tactic(auto)]
+
 ghost use Rattle.std.specs.Prelude.{◌≡◌, cond, ◌+◌, ◌-◌, ◌*◌, ◌^◌, ◌<◌, ◌≤◌, length, take};
 ghost use Rattle.decimal.specs.Decimal.{is_digit};
 ghost use Rattle.decimal.specs.Decimal as Decimal;

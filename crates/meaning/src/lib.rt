@@ -1,5 +1,6 @@
 // What a reader must believe: the types and the limits that document 01 names, and under specs/ the document as definitions.
 // The laws of the definitions stand under proofs/. Nothing here runs.
+#![tactic(auto)]
 
 // The most rows of a table: document 01's limit, which `most_rows` names in the definitions.
 pub const MOST_ROWS: usize = 8192;

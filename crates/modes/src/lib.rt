@@ -1,4 +1,6 @@
 // The machine that reads tokens of the grammar, by numbers: what a class of tokens does in a mode (crates/text/specs/Machine.antt).
+#![tactic(auto)]
+
 ghost use Rattle.std.specs.Prelude.{◌≡◌, ◌<◌};
 ghost use Rattle.modes.specs.Acts.{act_of};
 

@@ -1,6 +1,8 @@
 // The lent list of names (document 02, W-202): one pass indexes it and finds the first bad line; then the number of a word is looked up.
 // Lines have numbers from 1. Those of one hash are chained from the last one back: `heads` has the last line of each hash, `nexts` the line
 // before each, and at 0 how many lines there are; `starts` has the first byte of each 8th line. So a list of any length takes little room.
+#![tactic(auto)]
+
 ghost use Rattle.std.specs.Prelude.{◌≡◌, false, ◌&&◌, cond, ◌+◌, ◌-◌, ◌*◌, ◌/◌, ◌%◌, ◌<◌, ◌≤◌, leb, eqb, length, get_or, take, drop, set, replicate};
 ghost use Rattle.names.specs.Names.{is_letter, is_name_byte, all_name_bytes, good_name, same};
 ghost use Rattle.names.specs.Names.{names_of, bad_line, bad_names, bad_line_number, is_named, number_of};

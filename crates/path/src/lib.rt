@@ -1,4 +1,6 @@
 // Reads of a path's rows, each equal to its definition (document 01, "The path form").
+#![tactic(auto)]
+
 ghost use Rattle.std.specs.Prelude.{◌≡◌, ◌<◌, ◌≤◌};
 ghost use Rattle.meaning.specs.Rows.{op_of, field, rows_of, fields_of, is_link, first_link, second_link};
 ghost use Rattle.meaning.specs.Tree.{index_or_axis, test_at};

@@ -1,4 +1,6 @@
 // The path checker (document 01, "Numbers given back", 3 to 6): linear passes over the rows, one for each thing looked for.
+#![tactic(auto)]
+
 ghost use Rattle.std.specs.Prelude.{◌≡◌, ◌+◌, ◌<◌, ◌≤◌, max, length, get_or, false};
 ghost use Rattle.meaning.specs.Lists.{lowest};
 ghost use Rattle.meaning.specs.Rows.{rows_of, path_length_allowed, bad_literal, bad_literal_at, links_again, misplaced, broken_row};

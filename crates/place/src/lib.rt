@@ -1,5 +1,7 @@
 // The place of a node on an axis of another (document 02, W-203): the table is checked, then one pass over the rows before the node, in the
 // order of the axis, and no list.
+#![tactic(auto)]
+
 ghost use Rattle.std.specs.Prelude.{◌≡◌, ◌<◌, ◌≤◌};
 ghost use Rattle.meaning.specs.Table.{rows, most_rows};
 ghost use Rattle.meaning.specs.Axis.{axis_of, place};

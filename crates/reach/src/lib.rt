@@ -2,6 +2,8 @@
 // (document 01, "Meaning": each step takes every node of the set so far, and the union goes on).
 // A pass carries what it has gathered from the marked rows behind it: the furthest end, the nearest row, the least end,
 // the last row, or a flag for each parent. It reads a row's mark before it writes it.
+#![tactic(auto)]
+
 ghost use Rattle.std.specs.Prelude.{◌≡◌, true, false, ◌&&◌, ◌||◌, ℕ, ◌<◌, ◌≤◌, ltb, eqb, length, get_or};
 ghost use Rattle.meaning.specs.Lists.{up_to, some};
 ghost use Rattle.meaning.specs.Table.{most_rows, rows, end};

@@ -1,5 +1,7 @@
 // The reader of path text (document 02, W-202): the names, then what is wrong in the text, then the limits and the rooms; on 0 the rows and the
 // literals. Nothing is written before all checks are passed.
+#![tactic(auto)]
+
 ghost use Rattle.std.specs.Prelude.{◌≡◌, false, ◌*◌, ◌<◌, ◌≤◌, length};
 ghost use Rattle.meaning.specs.Answers.{answer};
 ghost use Rattle.names.specs.Names.{names_of, bad_names};

@@ -1,5 +1,7 @@
 // The evaluator: what a path selects from a node of a table (document 01, "Meaning" and "Numbers given back"), in an edition of the rule
 // sheets (document 02, W-210).
+#![tactic(auto)]
+
 mod cycle;
 
 ghost use Rattle.std.specs.Prelude.{◌≡◌, true, ◌<◌};

@@ -1,6 +1,8 @@
 // Truths decided for all rows of a set at once: a state for each row in one array, so that no nested operand needs a buffer.
 // At nesting level l the rows in question have the state 2l, and all others a lower one; where the truth does not hold the
 // state becomes 2l + 1.
+#![tactic(auto)]
+
 ghost use Rattle.std.specs.Prelude.{◌≡◌, false, cond, ◌+◌, ◌<◌, ◌≤◌, length, get_or};
 ghost use Rattle.sieve.specs.Sieve.{Recast, Lowered, Exchanged, Sieved, Retained};
 

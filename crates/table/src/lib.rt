@@ -1,5 +1,7 @@
 // Reads of a node table's rows, each equal to its definition (document 01, "The node table"). A row that is read is there, so no read
 // compares.
+#![tactic(auto)]
+
 ghost use Rattle.std.specs.Prelude.{◌≡◌, ◌<◌};
 ghost use Rattle.meaning.specs.Table.{rows, kind, is_attribute, name, parent_of, size, end};
 

@@ -1,5 +1,7 @@
 // The table checker (document 01, "The node table" and "Numbers given back"; document 02, W-206 and W-209): one look for the first element
 // and one pass over the rows, begun again at an attribute whose name is none of the few; sums in 64 bits.
+#![tactic(auto)]
+
 ghost use Rattle.std.specs.Prelude.{◌≡◌, true, false, not, ◌+◌, ◌<◌, ◌≤◌, length};
 ghost use Rattle.meaning.specs.Lists.{lowest};
 ghost use Rattle.meaning.specs.Table.{rows, most_rows, length_allowed, good_root, is_attribute, good_name, good_parent, text_of_root, later_element, text_after_text, among_attributes, good_row, broken};

@@ -1,4 +1,6 @@
 // The running lexer of path text (document 02, W-202): the next token, and what words and names are. One pass; names are scanned once.
+#![tactic(auto)]
+
 mod lexer;
 mod naming;
 mod runs;

@@ -1,5 +1,7 @@
 // The path turner (document 01, "Turning round" and "Numbers given back").
 // Rows are written from the inside out, in postorder: a step behind the rows that stand already links the last of them.
+#![tactic(auto)]
+
 ghost use Rattle.std.specs.Prelude.{◌≡◌, cond, [], ◌∷◌, ◌++◌, ◌+◌, ◌*◌, ◌<◌, ◌≤◌, eqb, length, drop, set};
 ghost use Rattle.std.proofs.lemmas.List.Edits.{sets};
 ghost use Rattle.meaning.specs.Rows.{op_of, op_at, code};

@@ -1,4 +1,6 @@
 // Values of expressions: what an op makes of its operands, each operation once, in f64.
+#![tactic(auto)]
+
 ghost use Rattle.std.specs.Prelude.{◌≡◌, false, ◌≤◌, get_or};
 ghost use Rattle.std.specs.Float.{nan};
 ghost use Rattle.std.specs.Float.Ieee.Exact.{HasValue};

@@ -1,5 +1,7 @@
 // The subtree view (document 01, "Numbers given back"): the entries from v to v + size(v), as a part of the caller's list.
 // The part is found by its two ends, by halving; the table and the whole list are looked at before.
+#![tactic(auto)]
+
 ghost use Rattle.std.specs.Prelude.{◌≡◌};
 ghost use Rattle.meaning.specs.View.{entry_fits, ascending, viewable, begins};
 ghost use Rattle.meaning.specs.Promises.{FindsPart, ShowsPart};

@@ -1,0 +1,268 @@
+#!/usr/bin/env python3
+"""Turns proofs that walk the code (proofs/F/Proof.antt) into Invariants.antt and Answers.antt.
+
+usage: python3 tools/port/answers.py CRATE [F..]     at the top of the repository; the crates below CRATE have to prove
+
+It asks `rt check --generated .. --old-names` for the old and the new name of each goal and step, leaves out what was `search rules`, and
+takes the walks away. What it can't turn it prints; `rt check` says what is left to answer.
+"""
+import json
+import os
+import re
+import subprocess
+import sys
+import tempfile
+
+WORD = re.compile(r"[^\s(){}.,;«»⌜⌝`\"|\[\]]+")
+
+
+def norm(name):
+    return name.replace("-", "_").replace("overflow_", "").replace("'", "")
+
+
+def names_of(crate):
+    with tempfile.TemporaryDirectory() as d:
+        r = subprocess.run(["rt", "check", "--generated", d, "--old-names"], cwd=f"crates/{crate}", capture_output=True, text=True)
+        p = os.path.join(d, "names.json")
+        if not os.path.exists(p):
+            print(r.stdout[-3000:], r.stderr[-1000:])
+            raise SystemExit(f"no names of {crate}")
+        return json.load(open(p))
+
+
+def blocks(text):
+    """Declarations: comment lines, a signature, `unfolding` and clauses. A line that begins a signature begins one."""
+    out, now, kind = [], [], None
+    for line in text.split("\n"):
+        if line.startswith("use ") or line.startswith("--"):
+            if line.startswith("--") and kind == "decl":
+                out.append(now)
+                now, kind = [line], "comment"
+                continue
+            if kind == "decl" or (kind == "comment" and line.startswith("use ")):
+                out.append(now)
+                now = []
+            now.append(line)
+            kind = "comment" if line.startswith("--") else "use"
+            if kind == "use":
+                out.append(now)
+                now, kind = [], None
+            continue
+        if not line.strip():
+            if kind == "decl" or kind == "comment":
+                out.append(now)
+                now, kind = [], None
+            continue
+        now.append(line)
+        kind = "decl"
+    if now:
+        out.append(now)
+    return out
+
+
+def head_of(block):
+    for line in block:
+        if not line.startswith("--"):
+            m = re.match(r"(?:abbrev )?(?:pub )?(?:unfoldable )?([^\s:]+)\s*:(.*)", line)
+            return (m.group(1), m.group(2), line) if m else (None, None, line)
+    return None, None, None
+
+
+class Function:
+    def __init__(self, crate, folder, names):
+        self.crate, self.folder, self.names = crate, folder, names
+        self.needs = {norm(a): b for a, b in names["needs"]}
+        self.steps = {}
+        for place in names["places"]:
+            a, b = place[2]
+            if a:
+                self.steps[norm(a)] = b
+        self.places = {}
+        for place, new in zip(names["places"], names["places_by_name"]):
+            self.places[norm(place[0])] = new
+        self.said = []
+
+    def path(self, tokens):
+        """A path from `c`: steps behind `.before` by today's names."""
+        parts = [p for p in tokens if p != "before"]
+        if parts:
+            key = norm(parts[0])
+            if key in self.steps:
+                parts[0] = self.steps[key]
+            elif parts[0] not in ("args", "requires", "ranges", "type_inv", "auto", "lifetimes", "well_formed"):
+                self.said.append("step? " + parts[0])
+        out = []
+        for k, p in enumerate(parts):
+            out.append(p)
+        return out
+
+    def body(self, text, variable="c"):
+        aliases = {variable}
+        # aliases of places: `let lo = c.before.before in`
+        for m in re.finditer(r"let ([\w₀-₉']+) = (\w+)((?:\.before)+) in\s*", text):
+            if m.group(2) in aliases:
+                aliases.add(m.group(1))
+        text = re.sub(r"let ([\w₀-₉']+) = (\w+)((?:\.before)+) in\s*", lambda m: "" if m.group(1) in aliases else m.group(0), text)
+
+        def one(m):
+            head = m.group(1)
+            if head not in aliases:
+                return m.group(0)
+            parts = m.group(2)[1:].split(".")
+            return ".".join(["c"] + self.path(parts))
+
+        text = re.sub(r"(?<![\w.'-])([\w₀-₉']+)((?:\.[^\s(){}.,;\[\]]+)+)", one, text)
+        return text
+
+    def goal_types(self, text):
+        def one(m):
+            w = m.group(1)
+            if w.startswith("Need-"):
+                return "goal." + self.needs.get(norm(w[5:]), w[5:])
+            if norm(w) in self.places:
+                return "goal." + self.places[norm(w)]
+            if w[:4] in ("Then", "Else"):
+                return "goal." + self.places.get(norm(w), w)
+            return "goal." + w
+        return re.sub(r"\btie\.([^\s(){},;]+)((?: (?:invariant|decreases)-[\w-]+)*)", lambda m: one(m), text)
+
+
+def loop_names(names):
+    out = {}
+    for (pair, variables), changed in zip(names["loops"], names["changed"]):
+        out[norm(pair[0])] = (pair[1], variables, changed)
+    return out
+
+
+def turn(crate, folder, names, dotted):
+    path = f"crates/{crate}/proofs/{folder}/Proof.antt"
+    text = open(path, encoding="utf-8").read()
+    f = Function(crate, folder, names)
+    loops = loop_names(names)
+    uses, invariants, answers, helpers, comments = [], [], [], [], []
+    order = []
+    for b in blocks(text):
+        if b[0].startswith("use "):
+            if ".Tie" in b[0] or "Statement" in b[0]:
+                continue
+            uses.append(b[0])
+            continue
+        name, sig, line = head_of(b)
+        if line is None:
+            comments += b
+            continue
+        lead = [l for l in b if l.startswith("--")]
+        rest = [l for l in b if not l.startswith("--")]
+        if name is None:
+            f.said.append("block? " + line)
+            continue
+        if "statement M" in sig or "Statement" in sig:
+            continue
+        m = re.match(r"\s*tie\.(invariant|decreases)-(\S+)", sig)
+        if m and rest[0].startswith("abbrev"):
+            kind, old = m.group(1), m.group(2)
+            if norm(old) not in loops:
+                f.said.append(f"loop? {old} of {list(loops)}")
+                continue
+            new, variables, changed = loops[norm(old)]
+            clause = "\n".join(rest[1:])
+            lhs, rhs = clause.split("=", 1)
+            binders = lhs.split()[1:]
+            want = list(variables) + [v for v, c in zip(variables, changed) if c]
+            if len(binders) != len(want):
+                f.said.append(f"binders of {old}: {binders} against {variables} {changed}")
+            table = {}
+            for i, v in enumerate(binders):
+                if i < len(variables):
+                    table[v] = ("l.initial." if changed[i] else "l.") + variables[i]
+                elif i < len(want):
+                    table[v] = "l." + want[i]
+
+            def put(mm):
+                w = mm.group(0)
+                before = rhs[:mm.start()]
+                return table[w] if w in table and not before.endswith(".") else w
+            rhs = WORD.sub(put, rhs)
+            invariants.append((lead, f"abbrev pub {kind}-{new} : goal.{kind}-{new}", f"{kind}-{new} l ={rhs}"))
+            continue
+        m = re.match(r"\s*tie\.Need-(\S+)", sig)
+        if m:
+            old = m.group(1)
+            new = f.needs.get(norm(old))
+            clause = "\n".join(rest[1:])
+            body = clause.split("=", 1)[1].strip() if "=" in clause else clause
+            last = [l for l in rest[1:] if not l.startswith("unfolding")]
+            unfolding = [l for l in rest[1:] if l.startswith("unfolding")]
+            clause = "\n".join(last)
+            lhs, rhs = clause.split("=", 1)
+            binders = lhs.split()[1:]
+            order.append((old, new))
+            if rhs.strip() == "search rules" and not unfolding:
+                continue
+            if new is None:
+                f.said.append(f"goal? {old}: {rhs.strip()[:60]}")
+                new = "OLD-" + old
+            var = next((x for x in binders if x not in ("κs", "t", "_")), "c")
+            rhs = f.body(rhs, var)
+            pre = [x for x in binders if x == "t"]
+            answers.append((lead, f"pub {new} : goal.{new}", unfolding, f"{new} {' '.join(pre + ['c'])} ={rhs}"))
+            continue
+        # a lemma of the file's own
+        whole = "\n".join(lead + rest)
+        whole = f.goal_types(whole)
+        # places that the lemma takes
+        for v in re.findall(r"\((\w+) : goal\.", whole) + re.findall(r"^\w[\w-]* (c)\b", whole, re.M):
+            whole = f.body(whole, v)
+        helpers.append(whole)
+    module = "Rattle." + crate + ".proofs." + dotted
+    out_uses = [u for u in uses]
+    written = []
+    folder_path = f"crates/{crate}/proofs/{folder}"
+    head = "\n".join(comments)
+    if invariants:
+        t = "\n".join(out_uses) + f"\nuse {module}.Given as goal\n"
+        for lead, sig, clause in invariants:
+            t += "\n" + "\n".join(lead + [sig, clause]) + "\n"
+        written.append((f"{folder_path}/Invariants.antt", (head + "\n" if head else "") + t))
+        head = ""
+    if answers or helpers:
+        t = "\n".join(out_uses) + f"\nuse {module}.Goals as goal\n"
+        for h in helpers:
+            t += "\n" + h + "\n"
+        for lead, sig, unfolding, clause in answers:
+            t += "\n" + "\n".join(lead + [sig] + unfolding + [clause]) + "\n"
+        written.append((f"{folder_path}/Answers.antt", (head + "\n" if head else "") + t))
+    os.remove(path)
+    for p, t in written:
+        open(p, "w", encoding="utf-8").write(t)
+    if f.said:
+        print(f"{crate}/{folder}:", "; ".join(sorted(set(f.said))))
+
+
+def main(argv):
+    crate, only = argv[0], argv[1:]
+    names = names_of(crate)
+    known = {}
+    for k, v in names.items():
+        m = re.match(r"Rattle-" + crate + r"-proofs\.(.*)\.Lts(?:-(\w+))?$", k)
+        if m:
+            known.setdefault(m.group(1), []).append((m.group(2), v))
+    top = f"crates/{crate}/proofs"
+    for folder, dirs, fs in os.walk(top):
+        if "Proof.antt" not in fs:
+            continue
+        rel = os.path.relpath(folder, top)
+        dotted = rel.replace("/", ".")
+        if only and rel not in only:
+            continue
+        if dotted not in known:
+            print(f"{crate}/{rel}: no names; has {[k for k in known if dotted.split('.')[-1].strip('+') in k]}")
+            continue
+        if len(known[dotted]) != 1:
+            print(f"{crate}/{rel}: {len(known[dotted])} functions")
+            continue
+        turn(crate, rel, known[dotted][0][1], dotted)
+
+
+if __name__ == "__main__":
+    main(sys.argv[1:])
