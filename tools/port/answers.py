@@ -77,6 +77,12 @@ class Function:
             a, b = place[2]
             if a:
                 self.steps[norm(a)] = b
+        self.arms = {}
+        for arm in names["arms"]:
+            if arm:
+                for field, step, path in arm[2]:
+                    if path or arm[0] == "in_default":
+                        self.arms[(norm(step), tuple(path))] = f"{arm[0]}.{field}"
         self.places = {}
         for place, new in zip(names["places"], names["places_by_name"]):
             self.places[norm(place[0])] = new
@@ -87,6 +93,11 @@ class Function:
         parts = [p for p in tokens if p != "before"]
         if parts:
             key = norm(parts[0])
+            for n in range(len(parts), 0, -1):
+                if n == 1 and (len(parts) < 2 or parts[1] != "rest"):
+                    break
+                if (key, tuple(parts[1:n])) in self.arms:
+                    return [self.arms[(key, tuple(parts[1:n]))]] + parts[n:]
             if key in self.steps:
                 parts[0] = self.steps[key]
             elif parts[0] not in ("args", "requires", "ranges", "type_inv", "auto", "lifetimes", "well_formed"):
@@ -112,6 +123,9 @@ class Function:
             return ".".join(["c"] + self.path(parts))
 
         text = re.sub(r"(?<![\w.'-])([\w₀-₉']+)((?:\.[^\s(){}.,;\[\]]+)+)", one, text)
+        # a test of `!x` says today that x is true or false
+        text = re.sub(r"\(not-(?:true|false) _ (c\.(?:if|loop)-not-[\w-]+\.(?:true|false))\)", r"\1", text)
+        text = re.sub(r"not-(?:true|false) _ (c\.(?:if|loop)-not-[\w-]+\.(?:true|false))", r"\1", text)
         return text
 
     def goal_types(self, text):
@@ -134,12 +148,38 @@ def loop_names(names):
     return out
 
 
+def cites(text, name):
+    return re.search(r"(?<![\w.'-])" + re.escape(name) + r"(?![\w'-])", text)
+
+
+def with_lets(clause, lets):
+    """The clause with the lemmas that it cites before it, and what these unfold."""
+    lhs, rhs = clause.split("=", 1)
+    needed, unfolds, text = [], [], rhs
+    for name, typ, body, us in reversed(lets):
+        if cites(text, name):
+            needed.insert(0, (name, typ, body))
+            unfolds += us
+            text += " " + typ + " " + body
+    if not needed:
+        return clause, []
+
+    def plain(t):
+        for name, _, _ in needed:
+            t = re.sub(r"\(" + re.escape(name) + r" c\)", name, t)
+            t = re.sub(r"(?<![\w.'-])" + re.escape(name) + r" c(?![\w.'-])", name, t)
+        return t
+
+    head = "".join(f"    let {n} : {plain(t)} = {plain(b)} in\n" for n, t, b in needed)
+    return lhs + "=\n" + head + "    " + plain(rhs).strip(), unfolds
+
+
 def turn(crate, folder, names, dotted):
     path = f"crates/{crate}/proofs/{folder}/Proof.antt"
     text = open(path, encoding="utf-8").read()
     f = Function(crate, folder, names)
     loops = loop_names(names)
-    uses, invariants, answers, helpers, comments = [], [], [], [], []
+    uses, invariants, answers, helpers, comments, lets = [], [], [], [], [], []
     order = []
     for b in blocks(text):
         if b[0].startswith("use "):
@@ -207,13 +247,31 @@ def turn(crate, folder, names, dotted):
             pre = [x for x in binders if x == "t"]
             answers.append((lead, f"pub {new} : goal.{new}", unfolding, f"{new} {' '.join(pre + ['c'])} ={rhs}"))
             continue
-        # a lemma of the file's own
+        # a lemma of the file's own: one that takes a place is a `let` in each answer that cites it
+        taken = re.match(r"\s*\((\w+) : tie\.[^)]*\)\s*→\s*(.*)", "\n".join([sig] + [l for l in rest[1:] if l.startswith("    ") and not re.match(re.escape(name) + r"\b", l)][:0]), re.S)
+        clauses = [k for k, l in enumerate(rest) if k and re.match(re.escape(name) + r"(?=[ =])", l)]
+        whole_sig = "\n".join([sig.strip()] + rest[1:clauses[0]]) if clauses else sig
+        unfolds = [l for l in whole_sig.split("\n") if l.startswith("unfolding")]
+        whole_sig = "\n".join(l for l in whole_sig.split("\n") if not l.startswith("unfolding"))
+        taken = re.match(r"\s*\((\w+) : tie\.[^)]*\)\s*→\s*(.*)", whole_sig, re.S)
+        if taken and len(clauses) == 1:
+            clause = "\n".join(rest[clauses[0]:])
+            lhs, rhs = clause.split("=", 1)
+            binders = lhs.split()[1:]
+            v, typ = taken.group(1), taken.group(2).strip()
+            typ = f.body(typ, v)
+            rhs = f.body(rhs, binders[0]).strip()
+            if binders[1:]:
+                rhs = "λ " + " ".join(binders[1:]) + ". " + rhs
+            lets.append((name, typ, rhs, unfolds))
+            continue
         whole = "\n".join(lead + rest)
         whole = f.goal_types(whole)
-        # places that the lemma takes
-        for v in re.findall(r"\((\w+) : goal\.", whole) + re.findall(r"^\w[\w-]* (c)\b", whole, re.M):
+        for v in re.findall(r"\((\w+) : goal\.", whole):
             whole = f.body(whole, v)
         helpers.append(whole)
+    answers = [(lead, sig, unfolding + [u for u in us if u not in unfolding], clause) for lead, sig, unfolding, (clause, us) in
+               ((lead, sig, unfolding, with_lets(clause, lets)) for lead, sig, unfolding, clause in answers)]
     module = "Rattle." + crate + ".proofs." + dotted
     out_uses = [u for u in uses]
     written = []

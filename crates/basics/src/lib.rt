@@ -63,7 +63,7 @@ pub fn given(number: u32, place: usize) -> Answer
 }
 
 // What a function over bytes gives back: its number, and a place that counts bytes, numbers or lines.
-#[derive(Drop)]
+#[derive(Clone, Copy)]
 pub struct WideAnswer {
     pub number: u32,
     pub place: u64,

@@ -23,7 +23,7 @@ use pass::pass_over;
 use text::Sort;
 
 // The link and the sort in hand, and the number of rows written.
-#[derive(Drop)]
+#[derive(Clone, Copy)]
 pub struct Hand {
     pub link: u32,
     pub sort: Sort,
@@ -31,14 +31,14 @@ pub struct Hand {
 }
 
 // The same with the number of frames, which are rows to come.
-#[derive(Drop)]
+#[derive(Clone, Copy)]
 pub struct Bench {
     pub hand: Hand,
     pub height: usize,
 }
 
 // What was read last, the axis of the step to come, the number of literals, and the most paths around each other so far.
-#[derive(Drop)]
+#[derive(Clone, Copy)]
 pub struct State {
     pub mode: usize,
     pub axis: u32,
@@ -48,14 +48,14 @@ pub struct State {
 }
 
 // The state behind the last token, or that too many rows are committed.
-#[derive(Drop)]
+#[derive(Clone, Copy)]
 pub struct Passed {
     pub full: bool,
     pub state: State,
 }
 
 // The rows of a text without faults, its literals, and the most paths around each other. Where there are more than 256 rows, more are told.
-#[derive(Drop)]
+#[derive(Clone, Copy)]
 pub struct Composed {
     pub rows: usize,
     pub literals: usize,

@@ -5,7 +5,7 @@ ghost use Rattle.std.specs.Prelude.{◌≡◌, ◌+◌, ◌-◌, ◌*◌, ◌<�
 ghost use Rattle.decimal.specs.Decimal.{is_digit, most_number, leading, plain, digits, decimal_at, laid};
 
 // What stands at an index of a text: a number and the index behind its digits, or no decimal.
-#[derive(Drop)]
+#[derive(Clone, Copy)]
 pub enum Decimal {
     Number(u32, usize),
     Nothing,

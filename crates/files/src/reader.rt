@@ -19,7 +19,7 @@ const MOST_NUMBERS: usize = 4 * MOST_ROWS;
 const FEW_NUMBERS: usize = 4 * 1024;
 
 // The first two lines: how many rows follow, and where; or the one that is bad.
-#[derive(Drop)]
+#[derive(Clone, Copy)]
 enum Head {
     Rows(usize, usize),
     Bad(usize),

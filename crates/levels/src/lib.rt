@@ -421,7 +421,7 @@ fn string_fault(mode: usize, name: usize, p: usize, f: Fault) -> Fault
 }
 
 // A token of class k in a mode, with its group and tightness; it begins at begin and has this fault of its own.
-#[derive(Drop)]
+#[derive(Clone, Copy)]
 pub struct Read {
     pub group: usize,
     pub kind: usize,

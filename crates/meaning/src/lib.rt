@@ -9,14 +9,14 @@ pub const MOST_ROWS: usize = 8192;
 pub const LAST_AXIS: usize = 11;
 
 // The value of an expression is either a truth or a number.
-#[derive(Drop)]
+#[derive(Clone, Copy)]
 pub enum Value {
     Truth(bool),
     Number(f64),
 }
 
 // The context of a predicate is a node, a position and a size.
-#[derive(Drop)]
+#[derive(Clone, Copy)]
 pub struct Context {
     pub node: usize,
     pub position: f64,
@@ -24,14 +24,14 @@ pub struct Context {
 }
 
 // What a public function gives back: document 01's number, and its place.
-#[derive(Drop)]
+#[derive(Clone, Copy)]
 pub struct Answer {
     pub number: u32,
     pub place: u32,
 }
 
 // A part of a caller's list: where it begins, and how many entries it has.
-#[derive(Drop)]
+#[derive(Clone, Copy)]
 pub struct Part {
     pub begin: usize,
     pub length: usize,

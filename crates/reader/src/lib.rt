@@ -17,7 +17,7 @@ use survey::survey_text;
 use text::Fault;
 
 // What the reader gives back: its number and place, and how many literals there are, none on a refusal.
-#[derive(Drop)]
+#[derive(Clone, Copy)]
 pub struct Reading {
     pub number: u32,
     pub place: u64,

@@ -7,7 +7,7 @@ use tokens::{next_token, run_end};
 
 // A token: its class (34 at the end of the text), its first byte, the byte behind it and where the next one begins, and what it does: 0 is a
 // refusal.
-#[derive(Drop)]
+#[derive(Clone, Copy)]
 pub struct Seen {
     pub kind: usize,
     pub begin: usize,

@@ -13,7 +13,7 @@ use tokens::{is_due, run_end};
 
 // Where a reading stands: behind how many tokens and behind which byte, whether an operator is due, the mode, how many brackets are open,
 // what the last name before a `(` was, and the innermost level, if the window is for it.
-#[derive(Drop)]
+#[derive(Clone, Copy)]
 pub struct Trace {
     pub count: usize,
     pub at: usize,

@@ -20,7 +20,7 @@ use tokens::{is_due, run_end};
 
 // Where the survey stands: a trace, the lowest level that the window is for, the sort of the operand in progress and the fault that was
 // found; at its end the fault is what was found in all.
-#[derive(Drop)]
+#[derive(Clone, Copy)]
 pub struct State {
     pub count: usize,
     pub at: usize,

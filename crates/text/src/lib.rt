@@ -3,21 +3,21 @@
 #![tactic(auto)]
 
 // A token: the number of its class, and the byte behind it.
-#[derive(Drop)]
+#[derive(Clone, Copy)]
 pub struct Lexeme {
     pub kind: usize,
     pub end: usize,
 }
 
 // What is wrong in a text: the number, 24 to 26, and the byte; the number 0 is no fault.
-#[derive(Drop)]
+#[derive(Clone, Copy)]
 pub struct Fault {
     pub number: u32,
     pub place: usize,
 }
 
 // The sort of an expression: a number, a truth, or a path, which gives nodes; what document 01 doesn't hold has none.
-#[derive(Drop)]
+#[derive(Clone, Copy)]
 pub enum Sort {
     Numeral,
     Truth,
@@ -26,7 +26,7 @@ pub enum Sort {
 }
 
 // What the survey knows of an open bracket and of the operand in progress in it (specs/Survey.antt).
-#[derive(Drop)]
+#[derive(Clone, Copy)]
 pub struct Level {
     pub kind: usize,
     pub rank: usize,

@@ -31,7 +31,7 @@ pub const UNKNOWN: usize = 33;
 pub const END: usize = 34;
 
 // A token: its class, its first byte and the byte behind it.
-#[derive(Drop)]
+#[derive(Clone, Copy)]
 pub struct Next {
     pub kind: usize,
     pub begin: usize,

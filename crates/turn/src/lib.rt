@@ -30,7 +30,7 @@ const ABSOLUTE: usize = 23;
 const LITERAL: usize = 1;
 
 // How many steps a chain has, and the number from 1 of the first that counts and of the first on the attribute axis; 0 where none is.
-#[derive(Drop)]
+#[derive(Clone, Copy)]
 struct Steps {
     count: usize,
     counting: usize,
