@@ -1,0 +1,19 @@
+-- `sieve::exchange` meets its contract: the states passed are exchanged, and the others are as they were. The measure is what is left of the rows.
+-- Assumes nothing.
+use Prim.Native.Nat.{◌-◌, ◌≤◌}
+use mathlib.Core.Path.{◌≡◌, refl, ◌∙◌}
+use lib.ListN.{length, length-set}
+use native.Mathlib.Omega.{arith}
+use borrow.Author.Rules.{rules}
+use Rattle.sieve.specs.Sieve.{BecameTo, Exchanged, exchanged_of}
+use Rattle.sieve.proofs.Sieves.{became_start, became_more, became_done}
+use Rattle.sieve.proofs.exchange.Given as goal
+
+abbrev pub invariant-loop-i : goal.invariant-loop-i
+invariant-loop-i l =
+    (l.i ≤ l.n)
+    × (length l.states ≡ length l.initial.states)
+    × BecameTo (λ y. exchanged_of l.active) l.i l.n l.initial.states l.states
+
+abbrev pub decreases-loop-i : goal.decreases-loop-i
+decreases-loop-i l = l.n - l.i
