@@ -1,0 +1,27 @@
+use Prim.Native.Nat.{◌+◌, ◌-◌, ◌≤◌}
+use mathlib.Core.Path.{◌≡◌, refl, ◌∙◌}
+use mathlib.Core.Bool.{true}
+use lib.Dec.{ltb}
+use native.Mathlib.Omega.{arith}
+use borrow.Author.Rules.{rules}
+use borrow.Author.Tests.{le-ltb}
+use Rattle.meaning.specs.Lists.{up_to}
+use Rattle.meaning.specs.Table.{rows, end}
+use Rattle.reach.specs.Reach.{admitted, beyond}
+use Rattle.reach.proofs.Sweep.{Gathered, gathered_start, gathered_more, giving, gives, given_gathered}
+use Rattle.reach.proofs.least_end.Goals as goal
+
+pub loop-i-init : goal.loop-i-init
+loop-i-init c = (omega arith, c.row_count-n.ensures, gathered_start _ _ _ _ (λ y l. le-ltb beyond y (omega arith)))
+
+pub loop-i-preserved : goal.loop-i-preserved
+loop-i-preserved c =
+    let inv = c.loop-i.invariant in
+    let own = c.both-counted in
+    let given : own.result ≡ giving c.args.from.now (admitted c.args.table.now true c.args.attributes) c.loop-i.i = gives _ _ _ _ _ _ refl c.admits.ensures own.ensures in
+    (omega arith, inv.1, gathered_more _ _ _ _ _ _ inv.2 (λ y l. c.smaller_if-low.ensures y ∙ rw (c.end_at.ensures.0, given)))
+
+pub returns : goal.returns
+returns c =
+    let e : c.loop-i.i ≡ c.row_count-n.result = omega arith in
+    λ y l. given_gathered _ _ _ _ _ _ _ c.loop-i.invariant.2 (e ∙ c.loop-i.invariant.1) y (omega arith)

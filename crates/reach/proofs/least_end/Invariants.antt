@@ -1,0 +1,21 @@
+-- `reach::least_end` meets its contract: a number is above what was gathered exactly if it is above the end of a row passed that gives. The
+-- measure is what is left of the rows.
+-- Assumes nothing.
+use Prim.Native.Nat.{◌+◌, ◌-◌, ◌≤◌}
+use mathlib.Core.Path.{◌≡◌, refl, ◌∙◌}
+use mathlib.Core.Bool.{true}
+use lib.Dec.{ltb}
+use native.Mathlib.Omega.{arith}
+use borrow.Author.Rules.{rules}
+use borrow.Author.Tests.{le-ltb}
+use Rattle.meaning.specs.Lists.{up_to}
+use Rattle.meaning.specs.Table.{rows, end}
+use Rattle.reach.specs.Reach.{admitted, beyond}
+use Rattle.reach.proofs.Sweep.{Gathered, gathered_start, gathered_more, giving, gives, given_gathered}
+use Rattle.reach.proofs.least_end.Given as goal
+
+abbrev pub invariant-loop-i : goal.invariant-loop-i
+invariant-loop-i l = (l.i ≤ l.n) × (l.n ≡ rows l.table) × Gathered (beyond + 1) (λ x y. ltb (end l.table x) y) (giving l.from (admitted l.table true l.attributes)) (up_to l.i) (λ y. ltb l.low y)
+
+abbrev pub decreases-loop-i : goal.decreases-loop-i
+decreases-loop-i l = l.n - l.i

@@ -1,0 +1,29 @@
+use Prim.Native.Nat.{◌-◌, ◌≤◌}
+use mathlib.Core.Path.{◌≡◌, refl, sym, ◌∙◌}
+use mathlib.Core.Bool.{true, ◌&&◌}
+use lib.ListN.{length, length-set}
+use native.Mathlib.Omega.{arith}
+use borrow.Author.Rules.{rules}
+use Rattle.meaning.specs.Table.{rows}
+use Rattle.meaning.specs.Axis.{after}
+use Rattle.meaning.proofs.Windows.{after_is}
+use Rattle.meaning.proofs.Marks.{Wrote, wrote_start, wrote_more}
+use Rattle.reach.specs.Reach.{hit, admitted}
+use Rattle.reach.proofs.Sweep.{bound_hit, up_hits}
+use Rattle.reach.proofs.mark_before.Goals as goal
+
+pub loop-i-init : goal.loop-i-init
+loop-i-init c = (omega arith, c.row_count-n.ensures, refl, wrote_start _ _)
+
+pub loop-i-preserved : goal.loop-i-preserved
+loop-i-preserved c =
+    let inv = c.loop-i.invariant in
+    let e = c.end_at.ensures in (
+      omega arith,
+      inv.1,
+      simp length-set inv.2,
+      wrote_more _ _ _ _ _ inv.3 (omega arith) (c.both.ensures ∙ rw (c.admits.ensures, c.below-passed.ensures, e.0) (bound_hit _ _ _ _ _ _ (λ x z. after _ z x) _ (λ x. sym (after_is _ _ x)) (c.last_marked-high.ensures _ (omega (arith, e))))),
+    )
+
+pub returns : goal.returns
+returns c = up_hits _ _ _ _ _ c.loop-i.invariant.3 (omega arith)

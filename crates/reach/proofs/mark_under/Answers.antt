@@ -1,0 +1,37 @@
+use Prim.Native.Nat.{◌+◌, ◌-◌, ◌<◌, ◌≤◌}
+use mathlib.Core.Path.{◌≡◌, refl, ◌∙◌}
+use mathlib.Core.Bool.{◌&&◌}
+use lib.ListN.{length, length-set}
+use native.Mathlib.Omega.{arith}
+use borrow.Author.Rules.{rules}
+use Rattle.meaning.specs.Table.{rows}
+use Rattle.meaning.specs.Axis.{under}
+use Rattle.meaning.proofs.Marks.{WroteDown, down_start, down_more, down_ahead}
+use Rattle.reach.specs.Reach.{hit, admitted}
+use Rattle.reach.proofs.Sweep.{rooted, under_hit, hit_take, down_hits}
+use Rattle.reach.proofs.mark_under.Goals as goal
+
+pub loop-i-init : goal.loop-i-init
+loop-i-init c = let e = c.row_count-i.ensures in (omega arith, refl, rw e (down_start _ _ _))
+
+pub bounds-marks-p : goal.bounds-marks-p
+bounds-marks-p c =
+    let low : c.loop-i.i - 1 < rows c.args.table.now = omega arith in
+    omega (arith, rooted _ c.requires.parents _ low)
+
+pub loop-i-preserved : goal.loop-i-preserved
+loop-i-preserved c =
+    let inv = c.loop-i.invariant in
+    let i = c.loop-i.i in
+    let t = c.args.table.now in
+    let n = rows t in
+    let back : i ≡ i - 1 + 1 = omega arith in
+    let low : i - 1 < n = omega arith in
+    let old = down_ahead _ _ _ _ _ c.parent_at-p.result inv.2 (omega (arith, rooted _ c.requires.parents _ low)) (omega (arith, rooted _ c.requires.parents _ low)) in (
+      omega arith,
+      simp length-set inv.1,
+      down_more _ n c.args.marks.now c.loop-i.marks (i - 1) _ (rw (← back) inv.2) (omega arith) (c.both.ensures ∙ rw (c.admits.ensures, c.both-child.ensures, c.below.ensures, old, c.parent_at-p.ensures.0, under_hit t c.args.marks.now (i - 1) low c.requires.parents) (hit_take t (under t) c.args.marks.now (i - 1) (admitted t c.args.others c.args.attributes))),
+    )
+
+pub returns : goal.returns
+returns c = down_hits _ _ _ _ _ (let e : c.loop-i.i ≡ 0 = omega arith in rw (← e) c.loop-i.invariant.2) refl
