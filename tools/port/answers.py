@@ -183,7 +183,7 @@ def turn(crate, folder, names, dotted):
     order = []
     for b in blocks(text):
         if b[0].startswith("use "):
-            if ".Tie" in b[0] or "Statement" in b[0]:
+            if ".Tie" in b[0] or "Statement" in b[0] or "{statement}" in b[0] or re.search(r"\.(Reads|Kinds|Lts-\w+) as |borrow\.Fn\.(Kinds|PlainCycle)", b[0]):
                 continue
             uses.append(b[0])
             continue
@@ -196,7 +196,7 @@ def turn(crate, folder, names, dotted):
         if name is None:
             f.said.append("block? " + line)
             continue
-        if "statement M" in sig or "Statement" in sig:
+        if "statement M" in sig or "Statement" in sig or name.endswith("-spec"):
             continue
         m = re.match(r"\s*tie\.(invariant|decreases)-(\S+)", sig)
         if m and rest[0].startswith("abbrev"):
@@ -225,7 +225,16 @@ def turn(crate, folder, names, dotted):
             rhs = WORD.sub(put, rhs)
             invariants.append((lead, f"abbrev pub {kind}-{new} : goal.{kind}-{new}", f"{kind}-{new} l ={rhs}"))
             continue
-        m = re.match(r"\s*tie\.Need-(\S+)", sig)
+        if rest[0].startswith("abbrev μ-"):
+            fn = name[2:].replace("-", "_")
+            params = PARAMS[fn]
+            rhs = "\n".join(rest[1:]).split("=", 1)[1]
+            rhs = re.sub(r"(?<![\w.])a((?:\.1)*)\.0(?![\w])", lambda mm: "l." + params[mm.group(1).count("1")], rhs)
+            invariants.append((lead, f"abbrev pub decreases-{fn} : goal.decreases-{fn}", f"decreases-{fn} l ={rhs}"))
+            continue
+        if rest[0].startswith("abbrev") and re.search(r"(-at|_at|-below|_below|calls)$", name) and "ℕ →" in sig:
+            continue
+        m = re.match(r"\s*tie\.Need-(\S+)", sig) or re.match(r"\s*\(t : ℕ\) → [\w-]+-lts\.Need-(\S+)", sig)
         if m:
             old = m.group(1)
             new = f.needs.get(norm(old))
@@ -297,9 +306,17 @@ def turn(crate, folder, names, dotted):
         print(f"{crate}/{folder}:", "; ".join(sorted(set(f.said))))
 
 
+PARAMS = {}
+
+
 def main(argv):
     crate, only = argv[0], argv[1:]
     names = names_of(crate)
+    for v in names.values():
+        if isinstance(v, dict):
+            for f, ps in v.get("params", {}).items():
+                if f.startswith(crate + "::"):
+                    PARAMS[f.rsplit("::", 1)[-1]] = ps
     known = {}
     for k, v in names.items():
         m = re.match(r"Rattle-" + crate + r"-proofs\.(.*)\.Lts(?:-(\w+))?$", k)

@@ -47,7 +47,7 @@ loop-i-preserved c =
     let named = c.pass_name in
     let passed = c.pass_row in
     let goes = sym c.may_pass.ensures ∙ c.if-not-may_pass.false in
-    (omega arith, omega arith, inv.2, passed.auto.1.1.0 ∙ inv.3, passed_more (stopped _ _) _ inv.4 (goes_past _ _ _ (rw inv.6 at goes)), passed.ensures, named.auto.1.1.0 ∙ inv.6, named.ensures)
+    (omega arith, omega arith, inv.2, passed.auto.next ∙ inv.3, passed_more (stopped _ _) _ inv.4 (goes_past _ _ _ (rw inv.6 at goes)), passed.ensures, named.auto.seen ∙ inv.6, named.ensures)
 
 pub shape_of-seen : goal.shape_of-seen
 shape_of-seen c = c.loop-i.invariant.6
