@@ -148,6 +148,35 @@ def loop_names(names):
     return out
 
 
+def put_variables(text, table):
+    """The text with each variable's path for its name, but where a λ binds the name."""
+    out, depth, shadows, at = [], 0, [], 0
+    while at < len(text):
+        ch = text[at]
+        if ch in "([{":
+            depth += 1
+        elif ch in ")]}":
+            depth -= 1
+            shadows = [s for s in shadows if s[0] <= depth]
+        elif ch == "λ":
+            end = text.index(". ", at) if ". " in text[at:] else len(text)
+            binders = text[at + 1:end]
+            shadows.append((depth, {w.strip("(") for w in binders.replace("(", " ").split() if w != ":"}))
+            out.append(text[at:end])
+            at = end
+            continue
+        m = WORD.match(text, at)
+        if m and (at == 0 or not WORD.match(text[at - 1]) and text[at - 1] != "."):
+            w = m.group(0)
+            hidden = any(w in names for _, names in shadows)
+            out.append(table[w] if w in table and not hidden else w)
+            at = m.end()
+            continue
+        out.append(ch)
+        at += 1
+    return "".join(out)
+
+
 def cites(text, name):
     return re.search(r"(?<![\w.'-])" + re.escape(name) + r"(?![\w'-])", text)
 
@@ -218,11 +247,7 @@ def turn(crate, folder, names, dotted):
                 elif i < len(want):
                     table[v] = "l." + want[i]
 
-            def put(mm):
-                w = mm.group(0)
-                before = rhs[:mm.start()]
-                return table[w] if w in table and not before.endswith(".") else w
-            rhs = WORD.sub(put, rhs)
+            rhs = put_variables(rhs, table)
             invariants.append((lead, f"abbrev pub {kind}-{new} : goal.{kind}-{new}", f"{kind}-{new} l ={rhs}"))
             continue
         if rest[0].startswith("abbrev μ-"):
@@ -254,7 +279,8 @@ def turn(crate, folder, names, dotted):
             var = next((x for x in binders if x not in ("κs", "t", "_")), "c")
             rhs = f.body(rhs, var)
             pre = [x for x in binders if x == "t"]
-            answers.append((lead, f"pub {new} : goal.{new}", unfolding, f"{new} {' '.join(pre + ['c'])} ={rhs}"))
+            extra = [x for x in binders if x not in ("κs", "t", var)]
+            answers.append((lead, f"pub {new} : goal.{new}", unfolding, f"{new} {' '.join(pre + ['c'] + extra)} ={rhs}"))
             continue
         # a lemma of the file's own: one that takes a place is a `let` in each answer that cites it
         taken = re.match(r"\s*\((\w+) : tie\.[^)]*\)\s*→\s*(.*)", "\n".join([sig] + [l for l in rest[1:] if l.startswith("    ") and not re.match(re.escape(name) + r"\b", l)][:0]), re.S)

@@ -49,8 +49,8 @@ pub fn cover_active(
     states: &[u16],
     near: &mut [bool],
 )
-    requires fact_1 { Ready table.now link }
-    requires fact_2 { (length states.now ≡ most_rows) × (length near.old ≡ most_rows) }
+    requires ready { Ready table.now link }
+    requires rooms { (length states.now ≡ most_rows) × (length near.old ≡ most_rows) }
     ensures { CoversActive edition table.now (tree path.now link) active states.now near.new }
 {
     let mut reached = [true; MOST_ROWS];

@@ -17,8 +17,8 @@ use table::row_count;
 
 // Marks the start of a path of this op, where nothing is marked yet.
 pub fn start_mark(table: &[u32], op: usize, start: usize, marks: &mut [bool])
-    requires fact_1 { rows table.now ≤ length marks.old }
-    requires fact_2 { ((y : ℕ) → get_or marks.old y false ≡ false) }
+    requires room { rows table.now ≤ length marks.old }
+    requires unmarked { (y : ℕ) → get_or marks.old y false ≡ false }
     ensures { listed table.now marks.new ≡ start_of table.now (op_of op) start }
 {
     let x = if op == 23 { 0 } else { start };

@@ -38,8 +38,8 @@ pub fn put_out(states: &mut [u16], n: usize)
 
 // Raises by a level what the first operand of an and leaves open, what holds, or where any of an or, what does not.
 pub fn raise(states: &mut [u16], n: usize, any: bool, active: u16)
-    requires fact_1 { n ≤ length states.old }
-    requires fact_2 { active < 65533 }
+    requires room { n ≤ length states.old }
+    requires level { active < 65533 }
     ensures { Recast n (cond any (active + 1) active) (active + 2) states.old states.new }
 {
     recast(states, n, choose(any, active + 1, active), active + 2);
@@ -47,8 +47,8 @@ pub fn raise(states: &mut [u16], n: usize, any: bool, active: u16)
 
 // Lowers the two states of the level above to those of active's own.
 pub fn lower(states: &mut [u16], n: usize, active: u16)
-    requires fact_1 { n ≤ length states.old }
-    requires fact_2 { active < 65532 }
+    requires room { n ≤ length states.old }
+    requires level { active < 65532 }
     ensures { Lowered n active states.old states.new }
 {
     let held = active + 2;
@@ -64,8 +64,8 @@ pub fn lower(states: &mut [u16], n: usize, active: u16)
 
 // Exchanges active and active + 1 among the first n states.
 pub fn exchange(states: &mut [u16], n: usize, active: u16)
-    requires fact_1 { n ≤ length states.old }
-    requires fact_2 { active < 65535 }
+    requires room { n ≤ length states.old }
+    requires level { active < 65535 }
     ensures { Exchanged n active states.old states.new }
 {
     let next = active + 1;
@@ -79,8 +79,8 @@ pub fn exchange(states: &mut [u16], n: usize, active: u16)
 
 // An active state among the first n whose row is not marked becomes active + 1.
 pub fn settle(states: &mut [u16], marks: &[bool], n: usize, active: u16)
-    requires fact_1 { (n ≤ length states.old) × (n ≤ length marks.now) }
-    requires fact_2 { active < 65535 }
+    requires room { (n ≤ length states.old) × (n ≤ length marks.now) }
+    requires level { active < 65535 }
     ensures { Sieved (λ y. get_or marks.now y false) active n states.old states.new }
 {
     let next = active + 1;
@@ -94,8 +94,8 @@ pub fn settle(states: &mut [u16], marks: &[bool], n: usize, active: u16)
 
 // Where a truth that is the same for every row does not hold each active state among the first n becomes active + 1.
 pub fn settle_all(states: &mut [u16], n: usize, active: u16, truth: bool)
-    requires fact_1 { n ≤ length states.old }
-    requires fact_2 { active < 65535 }
+    requires room { n ≤ length states.old }
+    requires level { active < 65535 }
     ensures { Sieved (λ y. truth) active n states.old states.new }
 {
     if truth {

@@ -155,12 +155,12 @@ module _ (p : List ℕ) (literals : List Float) (checked : Answer) (is-checked :
             pub no_room : full ≡ true → answer 11 (n + 1) ≡ turning p literals room
             unfolding turning
             no_room k =
-                rw (path_passes p literals zero_answer, counting_is, le-ltb 0 counting uncounted, attributes_is, le-ltb 0 attributes usual, absolute_is, ne_eqb op 23 not-absolute, ← is-n, ← is-many, ← is-short, ← is-full, k)
+                rw (path_passes p literals zero_answer, counting_is, le-ltb 0 counting uncounted, attributes_is, le-ltb 0 attributes usual, absolute_is, ne_eqb op 23 not_absolute, ← is-n, ← is-many, ← is-short, ← is-full, k)
 
             pub is_turned : full ≡ false → answer 0 (n + 1) ≡ turning p literals room
             unfolding turning
             is_turned k =
-                rw (path_passes p literals zero_answer, counting_is, le-ltb 0 counting uncounted, attributes_is, le-ltb 0 attributes usual, absolute_is, ne_eqb op 23 not-absolute, ← is-n, ← is-many, ← is-short, ← is-full, k)
+                rw (path_passes p literals zero_answer, counting_is, le-ltb 0 counting uncounted, attributes_is, le-ltb 0 attributes usual, absolute_is, ne_eqb op 23 not_absolute, ← is-n, ← is-many, ← is-short, ← is-full, k)
 
             -- what the writer asks for
             pub is_turnable : (out : List ℕ) → room ≡ length out → full ≡ false → Turnable p out
@@ -169,7 +169,7 @@ module _ (p : List ℕ) (literals : List Float) (checked : Answer) (is-checked :
                 let g : (many || short) ≡ false = sym is-full ∙ k in
                 let x : ltb most_path_rows (n + 1) ≡ false = sym is-many ∙ or_none_l many short g in
                 let y : ltb room (5 * (n + 1)) ≡ false = sym is-short ∙ or_none_r many short g in
-                let o : is_absolute (op_at p (rows_of p - 1)) ≡ false = ap (λ (k : ℕ). is_absolute (op_of k)) (sym top_op) ∙ op_is 23 op (omega arith) (omega arith) ∙ ne_eqb op 23 not-absolute in
+                let o : is_absolute (op_at p (rows_of p - 1)) ≡ false = ap (λ (k : ℕ). is_absolute (op_of k)) (sym top_op) ∙ op_is 23 op (omega arith) (omega arith) ∙ ne_eqb op 23 not_absolute in
                 record {
                   there = rows_there.0;
                   relative = relative_is (op_at p (rows_of p - 1)) (top_is_path p (length literals) accepted) o;

@@ -1,0 +1,15 @@
+-- `marks::count_marks` meets its contract. The loop's invariant: m is how many are marked below i. The measure is what is left
+-- of the rows.
+-- Assumes nothing.
+use Prim.Native.Nat.{◌-◌, ◌≤◌}
+use native.Mathlib.Omega.{arith}
+use borrow.Author.Rules.{rules}
+use mathlib.Core.Logic.{⊎_elim}
+use Rattle.meaning.proofs.Marks.{Counted, counted_start, counted_more, counted_skip, counted_done}
+use Rattle.marks.proofs.count_marks.Given as goal
+
+abbrev pub invariant-loop-i : goal.invariant-loop-i
+invariant-loop-i l = (l.i ≤ l.n) × (l.m ≤ l.i) × Counted l.marks l.m l.i
+
+abbrev pub decreases-loop-i : goal.decreases-loop-i
+decreases-loop-i l = l.n - l.i

@@ -1,0 +1,18 @@
+-- `marks::list_marks` meets its contract. The loop's invariant: the first m of the list are what is marked below y, the rest is as
+-- it was. A marked row finds room, since all of them have it. The measure is what is left of the rows.
+-- Assumes nothing.
+use Prim.Native.Nat.{◌-◌, ◌≤◌}
+use mathlib.Core.Path.{◌≡◌, refl, ap, ◌∙◌}
+use native.Mathlib.Omega.{arith}
+use borrow.Author.Rules.{rules}
+use lib.ListN.{length, length-set}
+use mathlib.Core.Logic.{⊎_elim}
+use Rattle.meaning.specs.Table.{rows}
+use Rattle.meaning.proofs.Marks.{Counted, counted_start, counted_more, counted_skip, counted_room, Listing, listing_start, listing_more, listing_skip, listing_done}
+use Rattle.marks.proofs.list_marks.Given as goal
+
+abbrev pub invariant-loop-y : goal.invariant-loop-y
+invariant-loop-y l = (l.y ≤ l.n) × (l.m ≤ l.y) × (l.n ≡ rows l.table) × (length l.list ≡ length l.initial.list) × Counted l.marks l.m l.y × Listing l.marks l.initial.list l.list l.m l.y
+
+abbrev pub decreases-loop-y : goal.decreases-loop-y
+decreases-loop-y l = l.n - l.y

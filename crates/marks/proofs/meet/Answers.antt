@@ -1,0 +1,22 @@
+use Prim.Native.Nat.{◌-◌, ◌≤◌}
+use mathlib.Core.Path.{◌≡◌, refl, ◌∙◌}
+use mathlib.Core.Bool.{false, ◌&&◌}
+use lib.ListN.{length, get_or, length-set}
+use native.Mathlib.Omega.{arith}
+use borrow.Author.Rules.{rules}
+use Rattle.meaning.specs.Table.{rows}
+use Rattle.meaning.proofs.Marks.{Wrote, wrote_start, wrote_ahead, wrote_more, wrote_all}
+use Rattle.marks.specs.Sets.{Met}
+use Rattle.marks.proofs.meet.Goals as goal
+
+pub loop-i-init : goal.loop-i-init
+loop-i-init c = (omega arith, c.row_count-n.ensures, refl, wrote_start _ _)
+
+pub loop-i-preserved : goal.loop-i-preserved
+loop-i-preserved c =
+    let inv = c.loop-i.invariant in
+    (omega arith, inv.1, simp length-set inv.2, wrote_more _ _ _ _ _ inv.3 (omega arith) (c.both.ensures ∙ rw (wrote_ahead _ _ _ _ c.loop-i.i inv.3 (omega arith))))
+
+pub returns : goal.returns
+unfolding Met
+returns c = wrote_all _ _ _ _ _ c.loop-i.invariant.3 (omega arith)

@@ -1,0 +1,18 @@
+-- `marks::meet` meets its contract: each mark passed stays where the other set has its row. The measure is what is left of the rows.
+-- Assumes nothing.
+use Prim.Native.Nat.{◌-◌, ◌≤◌}
+use mathlib.Core.Path.{◌≡◌, refl, ◌∙◌}
+use mathlib.Core.Bool.{false, ◌&&◌}
+use lib.ListN.{length, get_or, length-set}
+use native.Mathlib.Omega.{arith}
+use borrow.Author.Rules.{rules}
+use Rattle.meaning.specs.Table.{rows}
+use Rattle.meaning.proofs.Marks.{Wrote, wrote_start, wrote_ahead, wrote_more, wrote_all}
+use Rattle.marks.specs.Sets.{Met}
+use Rattle.marks.proofs.meet.Given as goal
+
+abbrev pub invariant-loop-i : goal.invariant-loop-i
+invariant-loop-i l = (l.i ≤ l.n) × (l.n ≡ rows l.table) × (length l.marks ≡ length l.initial.marks) × Wrote (λ y. get_or l.initial.marks y false && get_or l.others y false) l.initial.marks l.marks l.i
+
+abbrev pub decreases-loop-i : goal.decreases-loop-i
+decreases-loop-i l = l.n - l.i

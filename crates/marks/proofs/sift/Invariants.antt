@@ -1,0 +1,21 @@
+-- `marks::sift` meets its contract: each mark passed stays where its row passes the test, which all do for test 0. The measure is what is
+-- left of the rows.
+-- Assumes nothing.
+use Prim.Native.Nat.{◌-◌, ◌≤◌}
+use mathlib.Core.Path.{◌≡◌, refl, sym, ◌∙◌}
+use mathlib.Core.Bool.{false, ◌&&◌, and-true}
+use lib.ListN.{length, get_or, length-set}
+use native.Mathlib.Omega.{arith}
+use borrow.Author.Rules.{rules}
+use Rattle.meaning.specs.Table.{rows}
+use Rattle.meaning.specs.Axis.{axis_of, principal, passes, test_of}
+use Rattle.meaning.proofs.Editions.{second_passes}
+use Rattle.meaning.proofs.Marks.{Wrote, wrote_start, wrote_ahead, wrote_more, wrote_all}
+use Rattle.marks.specs.Sets.{Sifted}
+use Rattle.marks.proofs.sift.Given as goal
+
+abbrev pub invariant-loop-i : goal.invariant-loop-i
+invariant-loop-i l = (l.i ≤ l.n) × (l.n ≡ rows l.table) × (length l.marks ≡ length l.initial.marks) × Wrote (λ y. get_or l.initial.marks y false && passes 2 l.table (principal (axis_of l.axis)) (test_of l.read) y) l.initial.marks l.marks l.i
+
+abbrev pub decreases-loop-i : goal.decreases-loop-i
+decreases-loop-i l = l.n - l.i
