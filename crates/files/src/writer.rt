@@ -38,7 +38,9 @@ fn put(out: &mut [u8], at: usize, word: &[u8]) -> usize
     requires { at + length word.now ≤ length out.old }
     ensures { (result ≡ at + length word.now) × (out.new ≡ laid out.old at word.now) }
 {
-    at + bytes::copy(word, &mut out[at..])
+    let end = at + word.len();
+    out[at..end].copy_from_slice(word);
+    end
 }
 
 // Writes a line from an index on, and gives the index behind it.

@@ -1,0 +1,17 @@
+-- `files::reader::copy` meets its contract. The loop's invariant: the first i numbers stand in place of the output's own. The measure is what
+-- is left of the numbers. Assumes nothing.
+use Prim.Native.Nat.{suc, ◌+◌, ◌-◌, ◌<◌, ◌≤◌}
+use native.Mathlib.Omega.{arith}
+use native.Mathlib.Numerals.{add-one}
+use mathlib.Core.Path.{◌≡◌, refl, sym, ◌∙◌}
+use mathlib.Core.List.{◌++◌}
+use lib.ListN.{length, get_or, take, drop, length-set}
+use lib.Seq.{take-suc, take-length, length-take-le, drop-cons, set_at, append_snoc}
+use borrow.Author.Rules.{rules}
+use Rattle.files.proofs.reader.copy.Given as goal
+
+abbrev pub invariant-loop-i : goal.invariant-loop-i
+invariant-loop-i l = (l.i ≤ length l.numbers) × (length l.out ≡ length l.initial.out) × (l.out ≡ take l.i l.numbers ++ drop l.i l.initial.out)
+
+abbrev pub decreases-loop-i : goal.decreases-loop-i
+decreases-loop-i l = length l.numbers - l.i
