@@ -1,10 +1,13 @@
 // Lines of text for the programs: a buffer is filled from the front, and written to standard output where the line ends; `read` is
 // the other way. Each function here takes how much of the buffer is used and gives back how much is used then. What has no room is left out.
+#![tactic(auto)]
+
 pub mod output;
 pub mod read;
 
-use libc::STDOUT_FILENO;
+use itoa::Buffer;
 use output::least;
+use std::io;
 
 pub fn put_byte(line: &mut [u8], used: usize, byte: u8) -> usize {
     if used < line.len() {
@@ -26,9 +29,8 @@ pub fn put_text(line: &mut [u8], used: usize, text: &[u8]) -> usize {
 }
 
 pub fn put_number(line: &mut [u8], used: usize, n: u64) -> usize {
-    let mut digits = [0u8; 20];
-    let count = io::decimal(n, &mut digits);
-    put_text(line, used, &digits[..count])
+    let mut digits = Buffer::new();
+    put_text(line, used, digits.format(n).as_bytes())
 }
 
 // Each number with a space before it.
@@ -55,8 +57,8 @@ pub fn pad_to(line: &mut [u8], used: usize, column: usize) -> usize {
 }
 
 // Ends the line and writes it.
-pub fn write_line(line: &mut [u8], used: usize) {
+pub fn write_line(rt: &impl Print, line: &mut [u8], used: usize) -> io::Result<()> {
     let end = put_byte(line, used, b'\n');
     let count = least(end, line.len());
-    io::write_all(STDOUT_FILENO, &line[..count]);
+    rt.write_all(&line[..count])
 }
