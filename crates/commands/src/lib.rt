@@ -1,5 +1,7 @@
 // Commands, a line each: they set a table, a path, literals and a file, and ask the library's public functions of them. The programs
 // answer the commands of their standard input (tools/vectors/README.md has the format). Lines cost no proof, however many there are.
+#![tactic(auto)]
+
 mod answer;
 mod show;
 
@@ -7,15 +9,16 @@ use answer::{
     MOST_HELD, answer_check_path, answer_check_table, answer_evaluate, answer_limit, answer_place,
     answer_read_table, answer_turn, answer_view, answer_write_table,
 };
-use libc::STDIN_FILENO;
 use lines::output::{copy, front, written};
 use lines::read::{
     behind, count_of, from, is_word, line_end, number_at, read_file, read_literals, read_numbers,
 };
 use show::write_title;
+use std::io;
+use std::io::{Input, Read};
 
 // The commands that there are; a question about a table that is not held becomes one about its length.
-#[derive(Drop)]
+#[derive(Clone, Copy)]
 enum Command {
     Title,
     Table,
@@ -102,7 +105,7 @@ const MOST_LITERALS: usize = 66;
 const MOST_FILE: usize = 4200;
 
 // The lengths of the current table, path, literals and file. A table that is not held has its length all the same.
-#[derive(Drop)]
+#[derive(Clone, Copy)]
 struct Lengths {
     table: usize,
     path: usize,
@@ -159,6 +162,7 @@ fn answerable(command: Command, length: usize) -> Command {
 
 // A line that asks: it is answered. A title is written as it is.
 fn answer_line(
+    rt: &impl Print,
     line: &[u8],
     at: usize,
     command: Command,
@@ -166,31 +170,32 @@ fn answer_line(
     path: &[u32],
     literals: &[f64],
     file: &[u8],
-) {
+) -> io::Result<()> {
     match command {
-        Command::Title => write_title(line, at),
-        Command::CheckTable => answer_check_table(line, table),
-        Command::CheckPath => answer_check_path(line, path, literals),
-        Command::Place => answer_place(line, at, table),
-        Command::Evaluate => answer_evaluate(line, at, table, path, literals),
-        Command::Turn => answer_turn(line, at, path, literals),
-        Command::View => answer_view(line, at, table),
-        Command::ReadTable => answer_read_table(line, at, file),
-        Command::WriteTable => answer_write_table(line, at, table),
-        Command::Limit(length) => answer_limit(line, length),
-        _ => {}
+        Command::Title => write_title(rt, line, at),
+        Command::CheckTable => answer_check_table(rt, line, table),
+        Command::CheckPath => answer_check_path(rt, line, path, literals),
+        Command::Place => answer_place(rt, line, at, table),
+        Command::Evaluate => answer_evaluate(rt, line, at, table, path, literals),
+        Command::Turn => answer_turn(rt, line, at, path, literals),
+        Command::View => answer_view(rt, line, at, table),
+        Command::ReadTable => answer_read_table(rt, line, at, file),
+        Command::WriteTable => answer_write_table(rt, line, at, table),
+        Command::Limit(length) => answer_limit(rt, line, length),
+        _ => Ok(()),
     }
 }
 
 // A line that sets stores what it sets; any other is answered.
 fn run_line(
+    rt: &impl Print,
     line: &[u8],
     lengths: Lengths,
     table: &mut [u32],
     path: &mut [u32],
     literals: &mut [f64],
     file: &mut [u8],
-) -> Lengths {
+) -> io::Result<Lengths> {
     let mut next = lengths;
     let at = behind(line, b' ');
     let command = answerable(command_of(line), lengths.table);
@@ -208,6 +213,7 @@ fn run_line(
             )
         }
         _ => answer_line(
+            rt,
             line,
             at,
             command,
@@ -215,12 +221,12 @@ fn run_line(
             front(path, lengths.path),
             front_literals(literals, lengths.literals),
             front_bytes(file, lengths.file),
-        ),
+        )?,
     }
-    next
+    Ok(next)
 }
 
-fn run_lines(text: &[u8]) {
+fn run_lines(rt: &impl Print, text: &[u8]) -> io::Result<()> {
     let mut table_space = [0u32; MOST_TABLE];
     let mut path_space = [0u32; MOST_PATH];
     let mut literal_space = [0.0f64; MOST_LITERALS];
@@ -238,14 +244,15 @@ fn run_lines(text: &[u8]) {
     let mut begin = 0;
     while begin < text.len() {
         let end = line_end(text, begin);
-        lengths = run_line(&text[begin..end], lengths, table, path, literals, file);
+        lengths = run_line(rt, &text[begin..end], lengths, table, path, literals, file)?;
         begin = end + 1;
     }
+    Ok(())
 }
 
 // What a program does: it answers the commands of its standard input.
-pub fn run_standard_input() {
-    let mut text = [0u8; MOST_TEXT];
-    let count = io::read_full(STDIN_FILENO, &mut text);
-    run_lines(&text[..count]);
+pub fn run_standard_input(rt: &(impl Input + Print + AllocGlobal)) -> io::Result<()> {
+    let mut text = Vec::with_capacity(rt.alloc(), MOST_TEXT)?;
+    rt.reader().take(MOST_TEXT as u64).read_to_end(&mut text)?;
+    run_lines(rt, &text)
 }

@@ -5,12 +5,16 @@ use basics::WideAnswer;
 use lines::output::{front, is_changed, written};
 use lines::read::{behind, from};
 use lines::{pad_to, put_byte, put_number, put_numbers, put_text, write_line};
+use std::io;
 
 // Where the answers of lines with names begin.
 const COLUMN: usize = 72;
 
+// Room for a line that is written.
+const MOST_LINE: usize = 65536;
+
 // What the place counts on 0.
-#[derive(Drop)]
+#[derive(Clone, Copy)]
 pub enum Unit {
     Row,
     Node,
@@ -34,11 +38,11 @@ fn put_name(out: &mut [u8], name: &[u8]) -> usize {
 }
 
 // A line of text alone.
-pub fn write_title(line: &[u8], at: usize) {
-    let mut space = io::large_buffer();
+pub fn write_title(rt: &impl Print, line: &[u8], at: usize) -> io::Result<()> {
+    let mut space = [0u8; MOST_LINE];
     let out: &mut [u8] = &mut space;
     let used = put_text(out, 0, from(line, at));
-    write_line(out, used);
+    write_line(rt, out, used)
 }
 
 fn put_unit(out: &mut [u8], used: usize, unit: Unit) -> usize {
@@ -180,39 +184,51 @@ fn put_rest(out: &mut [u8], used: usize, told: bool, count: usize, output: &[u32
 }
 
 // An answer, whose call may have written so many numbers on 0 and none where it refused.
-pub fn write_answer(line: &[u8], answer: WideAnswer, unit: Unit, numbers: usize, output: &[u32]) {
-    let mut space = io::large_buffer();
+pub fn write_answer(
+    rt: &impl Print,
+    line: &[u8],
+    answer: WideAnswer,
+    unit: Unit,
+    numbers: usize,
+    output: &[u32],
+) -> io::Result<()> {
+    let mut space = [0u8; MOST_LINE];
     let out: &mut [u8] = &mut space;
     let count = written(answer.number, numbers);
     let mut used = put_answer(out, line, answer, unit, front(output, count));
     let told = name_of(line).len() != 0 && answer.number != 0;
     used = put_rest(out, used, told, count, output);
-    write_line(out, used);
+    write_line(rt, out, used)
 }
 
 // The program's own limit, which a table is above.
-pub fn write_own_limit(line: &[u8], most: usize) {
-    let mut space = io::large_buffer();
+pub fn write_own_limit(rt: &impl Print, line: &[u8], most: usize) -> io::Result<()> {
+    let mut space = [0u8; MOST_LINE];
     let out: &mut [u8] = &mut space;
     let mut used = put_name(out, name_of(line));
     used = put_text(out, used, b"the program's limit: ");
     used = put_count(out, used, most as u64, Unit::Row);
-    write_line(out, used);
+    write_line(rt, out, used)
 }
 
 // The library's limit, which a table is above, behind what the library answered.
-pub fn write_library_limit(line: &[u8], answer: WideAnswer, most: usize) {
-    let mut space = io::large_buffer();
+pub fn write_library_limit(
+    rt: &impl Print,
+    line: &[u8],
+    answer: WideAnswer,
+    most: usize,
+) -> io::Result<()> {
+    let mut space = [0u8; MOST_LINE];
     let out: &mut [u8] = &mut space;
     let mut used = put_answer(out, line, answer, Unit::Row, &[]);
     used = put_text(out, used, b", the library's limit: ");
     used = put_count(out, used, most as u64, Unit::Row);
-    write_line(out, used);
+    write_line(rt, out, used)
 }
 
 // A view's part: where it begins, how long it is and its entries, or `empty`; with a name the entries alone.
-pub fn write_part(line: &[u8], begin: usize, part: &[u32]) {
-    let mut space = io::large_buffer();
+pub fn write_part(rt: &impl Print, line: &[u8], begin: usize, part: &[u32]) -> io::Result<()> {
+    let mut space = [0u8; MOST_LINE];
     let out: &mut [u8] = &mut space;
     let name = name_of(line);
     let mut used = put_name(out, name);
@@ -227,12 +243,12 @@ pub fn write_part(line: &[u8], begin: usize, part: &[u32]) {
         used = put_text(out, used, b"part");
         used = put_numbers(out, used, part);
     }
-    write_line(out, used);
+    write_line(rt, out, used)
 }
 
 // A place; with a name in words.
-pub fn write_place(line: &[u8], place: u32) {
-    let mut space = io::large_buffer();
+pub fn write_place(rt: &impl Print, line: &[u8], place: u32) -> io::Result<()> {
+    let mut space = [0u8; MOST_LINE];
     let out: &mut [u8] = &mut space;
     let name = name_of(line);
     let mut used = put_name(out, name);
@@ -240,5 +256,5 @@ pub fn write_place(line: &[u8], place: u32) {
         used = put_text(out, used, b"place ");
     }
     used = put_number(out, used, place as u64);
-    write_line(out, used);
+    write_line(rt, out, used)
 }

@@ -1,7 +1,10 @@
 // Vectors: answers the commands of `stdin`. What is stored as expected in `stdout` comes from independent engines and an independent
 // checker (tools/vectors).
-use commands::run_standard_input;
+#![tactic(auto)]
 
-fn main() {
-    run_standard_input();
+use commands::run_standard_input;
+use std::io;
+
+fn main(rt: HostRuntime) -> io::Result<()> {
+    run_standard_input(&rt)
 }
