@@ -2,7 +2,7 @@
 -- 2 was bad; and line 2 is bad where it counts more rows than the limit. So every file that was valid before W-211 is, with the same rows and
 -- bytes, and the reader of then refuses all that are larger.
 -- Assumes nothing.
-use Prim.Native.Nat.{ℕ, zero, suc, ◌+◌, ◌<◌, ◌≤◌}
+use Prim.Native.Nat.{ℕ, zero, suc, ◌<◌, ◌≤◌}
 use native.Mathlib.Omega.{arith}
 use mathlib.Core.Path.{◌≡◌, refl, sym, ap, ◌∙◌}
 use mathlib.Core.List.{List, ◌++◌}

@@ -13,7 +13,7 @@ use borrow.Author.Tests.{lt-leb}
 use Rattle.meaning.specs.Lists.{up_to, some}
 use Rattle.meaning.specs.Axis.{axis_of, test_of, candidates}
 use Rattle.meaning.specs.Rows.{code, op_of, field, first_link, second_link}
-use Rattle.meaning.specs.Tree.{node, tree, index_or_axis, test_at}
+use Rattle.meaning.specs.Tree.{tree, index_or_axis, test_at}
 use Rattle.meaning.specs.Meaning.{float, holds, applied, keep_at, start_of, union, value, select, walk, filtered}
 use Rattle.meaning.specs.Turning.{over_path}
 use Rattle.meaning.specs.declared.Value.{Value}

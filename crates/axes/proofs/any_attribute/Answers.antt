@@ -1,7 +1,6 @@
 -- `axes::any_attribute` meets its contract: by the kind that was read.
 -- Assumes nothing.
 use mathlib.Core.Path.{◌∙◌}
-use borrow.Author.Rules.{rules}
 use Rattle.axes.proofs.any_attribute.Goals as goal
 
 pub returns : goal.returns

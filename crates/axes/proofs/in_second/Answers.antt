@@ -1,6 +1,5 @@
 -- `axes::in_second` meets its contract: by the numbers of the edition and of the test.
 -- Assumes nothing.
-use borrow.Author.Rules.{rules}
 use Rattle.meaning.proofs.Editions.{in_second}
 use Rattle.axes.proofs.in_second.Goals as goal
 

@@ -1,6 +1,5 @@
 -- `axes::is_descendant` meets its contract: by what its reads gave.
 -- Assumes nothing.
-use borrow.Author.Rules.{rules}
 use Rattle.meaning.specs.Axis as A
 use Rattle.axes.proofs.is_descendant.Goals as goal
 

@@ -1,6 +1,5 @@
 -- `axes::is_named` meets its contract: by what its reads gave.
 -- Assumes nothing.
-use borrow.Author.Rules.{rules}
 use Rattle.meaning.specs.Axis as A
 use Rattle.axes.proofs.is_named.Goals as goal
 

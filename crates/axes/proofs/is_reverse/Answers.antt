@@ -1,6 +1,5 @@
 -- `axes::is_reverse` meets its contract: which axes run backwards is computed over the eleven.
 -- Assumes nothing.
-use borrow.Author.Rules.{rules}
 use Rattle.meaning.proofs.Decoding.{reverse_axes}
 use Rattle.axes.proofs.is_reverse.Goals as goal
 

@@ -1,6 +1,5 @@
 -- `axes::passes_test` meets its contract: one answer for each test, by its number; what is none of 0 to 4 asks for a name.
 -- Assumes nothing.
-use borrow.Author.Rules.{rules}
 use Rattle.meaning.proofs.Decoding.{test_rest}
 use Rattle.meaning.specs.Axis as A
 use Rattle.axes.proofs.passes_test.Goals as goal

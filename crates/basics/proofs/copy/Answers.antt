@@ -1,11 +1,8 @@
-use Prim.Native.Nat.{◌-◌, ◌≤◌}
 use native.Mathlib.Omega.{arith}
 use mathlib.Core.Path.{◌≡◌, refl, ◌∙◌}
-use mathlib.Core.List.{◌++◌}
-use lib.ListN.{length, take, drop, length-set}
+use lib.ListN.{length, length-set}
 use lib.Seq.{take-length}
 use Rattle.basics.proofs.Copies.{copied_more}
-use borrow.Author.Rules.{rules}
 use Rattle.basics.proofs.copy.Goals as goal
 
 pub loop-i-init : goal.loop-i-init

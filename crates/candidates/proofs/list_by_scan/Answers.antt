@@ -1,14 +1,9 @@
-use Prim.Native.Nat.{◌-◌, ◌≤◌}
 use mathlib.Core.Path.{◌≡◌, refl, sym, ap, ◌∙◌}
 use native.Mathlib.Omega.{arith}
-use borrow.Author.Rules.{rules}
 use lib.ListN.{length, length-set}
-use mathlib.Core.Bool.{◌&&◌}
-use mathlib.Core.Logic.{⊎_elim}
-use Rattle.meaning.specs.Table.{rows}
-use Rattle.meaning.specs.Axis.{on, principal, passes, axis_of, test_of, ordered, axis_nodes, candidates}
+use Rattle.meaning.specs.Axis.{ordered, axis_nodes, candidates}
 use Rattle.meaning.proofs.Lists.{length_ordered, keep_keep}
-use Rattle.meaning.proofs.Filters.{Chosen, chosen_start, chosen_skip, chosen_more, chosen_done}
+use Rattle.meaning.proofs.Filters.{chosen_start, chosen_skip, chosen_more, chosen_done}
 use Rattle.candidates.proofs.list_by_scan.Goals as goal
 use Rattle.candidates.proofs.list_by_scan.Goals.{then-both, else-both}
 

@@ -2,16 +2,12 @@
 -- i rows of the axis's order. The measure is what is left of the rows.
 -- Assumes nothing.
 use Prim.Native.Nat.{◌-◌, ◌≤◌}
-use mathlib.Core.Path.{◌≡◌, refl, sym, ap, ◌∙◌}
-use native.Mathlib.Omega.{arith}
-use borrow.Author.Rules.{rules}
-use lib.ListN.{length, length-set}
+use mathlib.Core.Path.{◌≡◌}
+use lib.ListN.{length}
 use mathlib.Core.Bool.{◌&&◌}
-use mathlib.Core.Logic.{⊎_elim}
 use Rattle.meaning.specs.Table.{rows}
-use Rattle.meaning.specs.Axis.{on, principal, passes, axis_of, test_of, ordered, axis_nodes, candidates}
-use Rattle.meaning.proofs.Lists.{length_ordered, keep_keep}
-use Rattle.meaning.proofs.Filters.{Chosen, chosen_start, chosen_skip, chosen_more, chosen_done}
+use Rattle.meaning.specs.Axis.{on, principal, passes, axis_of, test_of, ordered}
+use Rattle.meaning.proofs.Filters.{Chosen}
 use Rattle.candidates.proofs.list_by_scan.Given as goal
 
 abbrev pub invariant-loop-i : goal.invariant-loop-i

@@ -1,6 +1,5 @@
 -- `candidates::list_candidates` meets its contract: each number's function lists the candidates of that axis.
 -- Assumes nothing.
-use borrow.Author.Rules.{rules}
 use Rattle.meaning.specs.Axis.{axis_of}
 use Rattle.meaning.proofs.Editions.{second_candidates}
 use Rattle.candidates.proofs.list_candidates.Goals as goal

@@ -1,7 +1,6 @@
 -- `candidates::list_descendants` meets its contract: the descendants are the rows of the range.
 -- Assumes nothing.
 use mathlib.Core.Path.{sym, ◌∙◌}
-use borrow.Author.Rules.{rules}
 use Rattle.meaning.specs.Axis.{principal, candidates}
 use Rattle.meaning.proofs.Lists.{keep_keep}
 use Rattle.meaning.proofs.Ranges.{descendants_range}

@@ -1,13 +1,8 @@
-use Prim.Native.Nat.{◌-◌, ◌≤◌}
-use mathlib.Core.Path.{◌≡◌, refl, ap, ◌∙◌}
-use mathlib.Core.Bool.{◌&&◌}
-use mathlib.Core.Logic.{⊎_elim}
+use mathlib.Core.Path.{refl, ap, ◌∙◌}
 use native.Mathlib.Omega.{arith}
 use borrow.Author.Rules.{rules}
 use lib.ListN.{length, length-set}
-use Rattle.meaning.specs.Table.{rows}
-use Rattle.meaning.specs.Axis.{passes, test_of}
-use Rattle.meaning.proofs.Ranges.{own_or_plain, Ranged, ranged_start, ranged_skip, ranged_more, ranged_done}
+use Rattle.meaning.proofs.Ranges.{ranged_start, ranged_skip, ranged_more, ranged_done}
 use Rattle.candidates.proofs.list_range.Goals as goal
 use Rattle.candidates.proofs.list_range.Goals.{then-both, else-both}
 

@@ -2,15 +2,12 @@
 -- measure is what is left of the range.
 -- Assumes nothing.
 use Prim.Native.Nat.{◌-◌, ◌≤◌}
-use mathlib.Core.Path.{◌≡◌, refl, ap, ◌∙◌}
+use mathlib.Core.Path.{◌≡◌}
 use mathlib.Core.Bool.{◌&&◌}
-use mathlib.Core.Logic.{⊎_elim}
-use native.Mathlib.Omega.{arith}
-use borrow.Author.Rules.{rules}
-use lib.ListN.{length, length-set}
+use lib.ListN.{length}
 use Rattle.meaning.specs.Table.{rows}
 use Rattle.meaning.specs.Axis.{passes, test_of}
-use Rattle.meaning.proofs.Ranges.{own_or_plain, Ranged, ranged_start, ranged_skip, ranged_more, ranged_done}
+use Rattle.meaning.proofs.Ranges.{own_or_plain, Ranged}
 use Rattle.candidates.proofs.list_range.Given as goal
 
 abbrev pub invariant-loop-y : goal.invariant-loop-y

@@ -1,7 +1,6 @@
 -- `candidates::past_subtree` meets its contract: it gives the less of the two numbers.
 -- Assumes nothing.
 use native.Mathlib.Omega.{arith}
-use borrow.Author.Rules.{rules}
 use Rattle.candidates.proofs.past_subtree.Goals as goal
 
 pub returns-then-n-x : goal.returns-then-n-x

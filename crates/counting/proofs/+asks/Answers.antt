@@ -1,6 +1,4 @@
-use borrow.Author.Rules.{rules}
 use Rattle.meaning.proofs.Counting.{asks_none, asks_itself, asks_no_path, asks_links}
-use Prim.Native.Nat.{ℕ, ◌<◌}
 use Rattle.counting.proofs.+asks.Goals as goal
 
 pub returns-then-link-eq0 : goal.returns-then-link-eq0

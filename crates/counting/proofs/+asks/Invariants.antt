@@ -1,8 +1,5 @@
 -- `counting::asks` meets its contract: by what was read of the row and what the links' trees ask; the measure is the link, which falls.
 -- Assumes nothing.
-use borrow.Author.Rules.{rules}
-use Rattle.meaning.proofs.Counting.{asks_none, asks_itself, asks_no_path, asks_links}
-use Prim.Native.Nat.{ℕ, ◌<◌}
 use Rattle.counting.proofs.+asks.Given as goal
 
 abbrev pub decreases-asks : goal.decreases-asks

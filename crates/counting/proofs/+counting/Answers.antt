@@ -1,6 +1,4 @@
-use borrow.Author.Rules.{rules}
 use Rattle.meaning.proofs.Counting.{counting_none, counting_row}
-use Prim.Native.Nat.{ℕ, ◌<◌}
 use Rattle.counting.proofs.+counting.Goals as goal
 
 pub returns-then-link-eq0 : goal.returns-then-link-eq0

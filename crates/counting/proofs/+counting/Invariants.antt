@@ -1,8 +1,5 @@
 -- `counting::counting` meets its contract: by what the chain before it and the predicate's own expression give; the measure is the link, which falls.
 -- Assumes nothing.
-use borrow.Author.Rules.{rules}
-use Rattle.meaning.proofs.Counting.{counting_none, counting_row}
-use Prim.Native.Nat.{ℕ, ◌<◌}
 use Rattle.counting.proofs.+counting.Given as goal
 
 abbrev pub decreases-counting : goal.decreases-counting

@@ -1,6 +1,4 @@
-use borrow.Author.Rules.{rules}
 use Rattle.meaning.proofs.Counting.{counts_none, counts_row}
-use Prim.Native.Nat.{ℕ, ◌<◌}
 use Rattle.counting.proofs.+counts.Goals as goal
 
 pub returns-then-link-eq0 : goal.returns-then-link-eq0

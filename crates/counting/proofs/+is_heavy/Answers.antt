@@ -1,6 +1,4 @@
-use borrow.Author.Rules.{rules}
 use Rattle.counting.proofs.Heavy.{heavy_none, heavy_itself, heavy_links}
-use Prim.Native.Nat.{ℕ, ◌<◌}
 use Rattle.counting.proofs.+is_heavy.Goals as goal
 
 pub returns-then-link-eq0 : goal.returns-then-link-eq0

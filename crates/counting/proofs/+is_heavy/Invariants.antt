@@ -1,8 +1,5 @@
 -- `counting::is_heavy` meets its contract: by what was read of the row and what the links' trees hold; the measure is the link, which falls.
 -- Assumes nothing.
-use borrow.Author.Rules.{rules}
-use Rattle.counting.proofs.Heavy.{heavy_none, heavy_itself, heavy_links}
-use Prim.Native.Nat.{ℕ, ◌<◌}
 use Rattle.counting.proofs.+is_heavy.Given as goal
 
 abbrev pub decreases-is_heavy : goal.decreases-is_heavy

@@ -1,6 +1,5 @@
 -- `counting::is_contextual` meets its contract: an op is told by its number.
 -- Assumes nothing.
-use borrow.Author.Rules.{rules}
 use Rattle.meaning.proofs.Counting.{contextual_ops}
 use Rattle.counting.proofs.is_contextual.Goals as goal
 

@@ -1,6 +1,5 @@
 -- `counting::is_numeric` meets its contract: no link is no number, a row is one by its op.
 -- Assumes nothing.
-use borrow.Author.Rules.{rules}
 use Rattle.meaning.proofs.Counting.{numeric_none, numeric_row}
 use Rattle.counting.proofs.is_numeric.Goals as goal
 

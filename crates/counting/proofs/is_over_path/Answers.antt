@@ -1,6 +1,5 @@
 -- `counting::is_over_path` meets its contract: an op is told by its number.
 -- Assumes nothing.
-use borrow.Author.Rules.{rules}
 use Rattle.meaning.proofs.Counting.{over_path_ops}
 use Rattle.counting.proofs.is_over_path.Goals as goal
 

@@ -1,6 +1,4 @@
-use Prim.Native.Nat.{ℕ, ◌<◌}
 use native.Mathlib.Omega.{arith}
-use borrow.Author.Rules.{rules}
 use Rattle.cover.proofs.Links.{lower}
 use Rattle.cover.proofs.Covering.{covered_none, covered_row}
 use Rattle.cover.proofs.+cover.Goals as goal

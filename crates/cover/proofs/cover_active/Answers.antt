@@ -5,7 +5,6 @@ use lib.ListN.{get_or-replicate}
 use native.Mathlib.Omega.{arith}
 use Rattle.meaning.specs.Table.{most_rows}
 use Rattle.cover.proofs.Covering.{covers_active}
-use borrow.Author.Rules.{rules}
 use Rattle.cover.proofs.cover_active.Goals as goal
 
 pub returns : goal.returns

@@ -1,7 +1,6 @@
 -- `decimal::digit_at` meets its contract: each way out rewrites with the tests that led there; past the end 0 is read, which is no digit.
 -- Assumes nothing.
 use lib.ListN.{get_or-eq_default}
-use borrow.Author.Rules.{rules}
 use borrow.Author.Tests.{le-leb, lt-leb}
 use Rattle.decimal.proofs.digit_at.Goals as goal
 

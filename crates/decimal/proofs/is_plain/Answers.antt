@@ -2,7 +2,6 @@
 -- Assumes nothing.
 use native.Mathlib.Omega.{arith}
 use mathlib.Core.Path.{sym, ◌∙◌}
-use borrow.Author.Rules.{rules}
 use Rattle.decimal.proofs.Decimals.{plain_none, plain_one, plain_more, leading_first}
 use Rattle.decimal.proofs.is_plain.Goals as goal
 

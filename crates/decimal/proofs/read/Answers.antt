@@ -1,12 +1,10 @@
-use Prim.Native.Nat.{◌-◌, ◌<◌}
+use Prim.Native.Nat.{◌<◌}
 use native.Mathlib.Omega.{arith}
 use mathlib.Core.Path.{◌≡◌, sym, ◌∙◌}
 use mathlib.Core.Bool.{true}
 use lib.ListN.{length, get_or}
-use borrow.Author.Rules.{rules}
-use borrow.Author.Tests.{not-true, not-false}
 use Rattle.decimal.specs.Decimal.{is_digit}
-use Rattle.decimal.proofs.Decimals.{Reading, reading_starts, reading_more, reading_done, Read, read_plain, read_large, read_number, digit_range, digit_inside}
+use Rattle.decimal.proofs.Decimals.{reading_starts, reading_more, reading_done, Read, read_plain, read_large, read_number, digit_range, digit_inside}
 use Rattle.decimal.proofs.read.Goals as goal
 
 pub loop-value-init : goal.loop-value-init

@@ -1,12 +1,10 @@
 -- `decimal::width` meets its contract. The loop's invariant: what is counted, with the digits that are left, is one more than the digits of
 -- n, which are at most ten. The measure is what is left of the number.
 -- Assumes nothing.
-use Prim.Native.Nat.{◌+◌, ◌/◌, ◌≤◌}
-use native.Mathlib.Omega.{arith}
+use Prim.Native.Nat.{◌+◌, ◌≤◌}
 use mathlib.Core.Path.{◌≡◌}
 use lib.ListN.{length}
 use Rattle.decimal.specs.Decimal.{digits}
-use Rattle.decimal.proofs.Decimals.{width_few, width_more, width_some, width_ten}
 use Rattle.decimal.proofs.width.Given as goal
 
 abbrev pub invariant-loop-rest : goal.invariant-loop-rest

@@ -3,8 +3,7 @@ use native.Mathlib.Omega.{arith}
 use mathlib.Core.Path.{◌≡◌, refl}
 use mathlib.Core.List.{[], ◌∷◌, ◌++◌}
 use lib.ListN.{length, length-set}
-use borrow.Author.Rules.{rules}
-use Rattle.decimal.specs.Decimal.{digits, laid}
+use Rattle.decimal.specs.Decimal.{digits}
 use Rattle.decimal.proofs.Decimals.{digits_few, digits_more, width_few, width_more, width_some}
 use Rattle.decimal.proofs.Laid.{laid_before, laid_one}
 use Rattle.decimal.proofs.write.Goals as goal

@@ -1,15 +1,10 @@
 -- `decimal::write` meets its contract. The loop's invariant: with the digits that are left laid where they belong, the slice would be what it
 -- is to be; the next one stands before those that are written. The measure is what is left of the number.
 -- Assumes nothing.
-use Prim.Native.Nat.{◌+◌, ◌/◌, ◌%◌, ◌<◌}
-use native.Mathlib.Omega.{arith}
-use mathlib.Core.Path.{◌≡◌, refl}
-use mathlib.Core.List.{[], ◌∷◌, ◌++◌}
-use lib.ListN.{length, length-set}
-use borrow.Author.Rules.{rules}
+use Prim.Native.Nat.{◌+◌, ◌<◌}
+use mathlib.Core.Path.{◌≡◌}
+use lib.ListN.{length}
 use Rattle.decimal.specs.Decimal.{digits, laid}
-use Rattle.decimal.proofs.Decimals.{digits_few, digits_more, width_few, width_more, width_some}
-use Rattle.decimal.proofs.Laid.{laid_before, laid_one}
 use Rattle.decimal.proofs.write.Given as goal
 
 abbrev pub invariant-loop-rest : goal.invariant-loop-rest

@@ -1,10 +1,8 @@
-use Prim.Native.Nat.{◌-◌, ◌≤◌}
-use mathlib.Core.Path.{◌≡◌, refl, ap, ◌∙◌}
+use mathlib.Core.Path.{refl, ap, ◌∙◌}
 use native.Mathlib.Omega.{arith}
 use borrow.Author.Rules.{rules}
 use lib.ListN.{length, length-set}
-use mathlib.Core.Logic.{⊎_elim}
-use Rattle.meaning.proofs.Marks.{Added, added_start, added_more, added_skip, added_done}
+use Rattle.meaning.proofs.Marks.{added_start, added_more, added_skip, added_done}
 use Rattle.marks.proofs.add_marks.Goals as goal
 use Rattle.marks.proofs.add_marks.Goals.{then-y-marks, else-y-marks}
 

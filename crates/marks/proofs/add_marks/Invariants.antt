@@ -2,12 +2,9 @@
 -- is what is left of n.
 -- Assumes nothing.
 use Prim.Native.Nat.{◌-◌, ◌≤◌}
-use mathlib.Core.Path.{◌≡◌, refl, ap, ◌∙◌}
-use native.Mathlib.Omega.{arith}
-use borrow.Author.Rules.{rules}
-use lib.ListN.{length, length-set}
-use mathlib.Core.Logic.{⊎_elim}
-use Rattle.meaning.proofs.Marks.{Added, added_start, added_more, added_skip, added_done}
+use mathlib.Core.Path.{◌≡◌}
+use lib.ListN.{length}
+use Rattle.meaning.proofs.Marks.{Added}
 use Rattle.marks.proofs.add_marks.Given as goal
 
 abbrev pub invariant-loop-i : goal.invariant-loop-i

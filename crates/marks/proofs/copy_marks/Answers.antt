@@ -1,11 +1,7 @@
-use Prim.Native.Nat.{◌-◌, ◌≤◌}
-use mathlib.Core.Path.{◌≡◌, refl}
-use mathlib.Core.Bool.{false}
-use lib.ListN.{length, get_or, length-set}
+use mathlib.Core.Path.{refl}
+use lib.ListN.{length-set}
 use native.Mathlib.Omega.{arith}
-use borrow.Author.Rules.{rules}
-use Rattle.meaning.specs.Table.{rows}
-use Rattle.meaning.proofs.Marks.{listed, Wrote, wrote_start, wrote_more, wrote_listed}
+use Rattle.meaning.proofs.Marks.{listed, wrote_start, wrote_more, wrote_listed}
 use Rattle.marks.proofs.copy_marks.Goals as goal
 
 pub loop-i-init : goal.loop-i-init

@@ -1,13 +1,11 @@
 -- `marks::copy_marks` meets its contract: each mark passed is as in the other set. The measure is what is left of the rows.
 -- Assumes nothing.
 use Prim.Native.Nat.{◌-◌, ◌≤◌}
-use mathlib.Core.Path.{◌≡◌, refl}
+use mathlib.Core.Path.{◌≡◌}
 use mathlib.Core.Bool.{false}
-use lib.ListN.{length, get_or, length-set}
-use native.Mathlib.Omega.{arith}
-use borrow.Author.Rules.{rules}
+use lib.ListN.{length, get_or}
 use Rattle.meaning.specs.Table.{rows}
-use Rattle.meaning.proofs.Marks.{listed, Wrote, wrote_start, wrote_more, wrote_listed}
+use Rattle.meaning.proofs.Marks.{Wrote}
 use Rattle.marks.proofs.copy_marks.Given as goal
 
 abbrev pub invariant-loop-i : goal.invariant-loop-i

@@ -1,8 +1,6 @@
-use Prim.Native.Nat.{◌-◌, ◌≤◌}
 use native.Mathlib.Omega.{arith}
 use borrow.Author.Rules.{rules}
-use mathlib.Core.Logic.{⊎_elim}
-use Rattle.meaning.proofs.Marks.{Counted, counted_start, counted_more, counted_skip, counted_done}
+use Rattle.meaning.proofs.Marks.{counted_start, counted_more, counted_skip, counted_done}
 use Rattle.marks.proofs.count_marks.Goals as goal
 use Rattle.marks.proofs.count_marks.Goals.{then-marks-i, else-marks-i}
 

@@ -2,10 +2,7 @@
 -- of the rows.
 -- Assumes nothing.
 use Prim.Native.Nat.{◌-◌, ◌≤◌}
-use native.Mathlib.Omega.{arith}
-use borrow.Author.Rules.{rules}
-use mathlib.Core.Logic.{⊎_elim}
-use Rattle.meaning.proofs.Marks.{Counted, counted_start, counted_more, counted_skip, counted_done}
+use Rattle.meaning.proofs.Marks.{Counted}
 use Rattle.marks.proofs.count_marks.Given as goal
 
 abbrev pub invariant-loop-i : goal.invariant-loop-i

@@ -2,7 +2,6 @@
 -- Assumes nothing.
 use borrow.Author.Tests.{lt-ltb, le-ltb}
 use Rattle.meaning.specs.Answers.{output}
-use borrow.Author.Rules.{rules}
 use Rattle.marks.proofs.give_marks.Goals as goal
 
 pub returns-then-out-n : goal.returns-then-out-n

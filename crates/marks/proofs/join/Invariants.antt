@@ -1,14 +1,11 @@
 -- `marks::join` meets its contract: each mark passed is set where either set has its row. The measure is what is left of the rows.
 -- Assumes nothing.
 use Prim.Native.Nat.{◌-◌, ◌≤◌}
-use mathlib.Core.Path.{◌≡◌, refl, ◌∙◌}
+use mathlib.Core.Path.{◌≡◌}
 use mathlib.Core.Bool.{false, ◌||◌}
-use lib.ListN.{length, get_or, length-set}
-use native.Mathlib.Omega.{arith}
-use borrow.Author.Rules.{rules}
+use lib.ListN.{length, get_or}
 use Rattle.meaning.specs.Table.{rows}
-use Rattle.meaning.proofs.Marks.{Wrote, wrote_start, wrote_ahead, wrote_more, wrote_all}
-use Rattle.marks.specs.Sets.{Joined}
+use Rattle.meaning.proofs.Marks.{Wrote}
 use Rattle.marks.proofs.join.Given as goal
 
 abbrev pub invariant-loop-i : goal.invariant-loop-i

@@ -1,11 +1,7 @@
-use Prim.Native.Nat.{◌-◌, ◌≤◌}
-use mathlib.Core.Path.{◌≡◌, refl, ap, ◌∙◌}
+use mathlib.Core.Path.{refl, ap, ◌∙◌}
 use native.Mathlib.Omega.{arith}
-use borrow.Author.Rules.{rules}
 use lib.ListN.{length, length-set}
-use mathlib.Core.Logic.{⊎_elim}
-use Rattle.meaning.specs.Table.{rows}
-use Rattle.meaning.proofs.Marks.{Counted, counted_start, counted_more, counted_skip, counted_room, Listing, listing_start, listing_more, listing_skip, listing_done}
+use Rattle.meaning.proofs.Marks.{counted_start, counted_more, counted_skip, counted_room, listing_start, listing_more, listing_skip, listing_done}
 use Rattle.marks.proofs.list_marks.Goals as goal
 use Rattle.marks.proofs.list_marks.Goals.{then-marks-y, else-marks-y}
 

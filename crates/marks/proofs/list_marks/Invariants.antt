@@ -2,13 +2,10 @@
 -- it was. A marked row finds room, since all of them have it. The measure is what is left of the rows.
 -- Assumes nothing.
 use Prim.Native.Nat.{◌-◌, ◌≤◌}
-use mathlib.Core.Path.{◌≡◌, refl, ap, ◌∙◌}
-use native.Mathlib.Omega.{arith}
-use borrow.Author.Rules.{rules}
-use lib.ListN.{length, length-set}
-use mathlib.Core.Logic.{⊎_elim}
+use mathlib.Core.Path.{◌≡◌}
+use lib.ListN.{length}
 use Rattle.meaning.specs.Table.{rows}
-use Rattle.meaning.proofs.Marks.{Counted, counted_start, counted_more, counted_skip, counted_room, Listing, listing_start, listing_more, listing_skip, listing_done}
+use Rattle.meaning.proofs.Marks.{Counted, Listing}
 use Rattle.marks.proofs.list_marks.Given as goal
 
 abbrev pub invariant-loop-y : goal.invariant-loop-y

@@ -1,13 +1,10 @@
-use Prim.Native.Nat.{◌-◌, ◌≤◌}
-use mathlib.Core.Path.{◌≡◌, refl, sym, ◌∙◌}
-use mathlib.Core.Bool.{false, ◌&&◌, and-true}
-use lib.ListN.{length, get_or, length-set}
+use mathlib.Core.Path.{refl, sym, ◌∙◌}
+use mathlib.Core.Bool.{false, and-true}
+use lib.ListN.{get_or, length-set}
 use native.Mathlib.Omega.{arith}
-use borrow.Author.Rules.{rules}
-use Rattle.meaning.specs.Table.{rows}
-use Rattle.meaning.specs.Axis.{axis_of, principal, passes, test_of}
+use Rattle.meaning.specs.Axis.{passes, test_of}
 use Rattle.meaning.proofs.Editions.{second_passes}
-use Rattle.meaning.proofs.Marks.{Wrote, wrote_start, wrote_ahead, wrote_more, wrote_all}
+use Rattle.meaning.proofs.Marks.{wrote_start, wrote_ahead, wrote_more, wrote_all}
 use Rattle.marks.specs.Sets.{Sifted}
 use Rattle.marks.proofs.sift.Goals as goal
 

@@ -2,16 +2,12 @@
 -- left of the rows.
 -- Assumes nothing.
 use Prim.Native.Nat.{◌-◌, ◌≤◌}
-use mathlib.Core.Path.{◌≡◌, refl, sym, ◌∙◌}
-use mathlib.Core.Bool.{false, ◌&&◌, and-true}
-use lib.ListN.{length, get_or, length-set}
-use native.Mathlib.Omega.{arith}
-use borrow.Author.Rules.{rules}
+use mathlib.Core.Path.{◌≡◌}
+use mathlib.Core.Bool.{false, ◌&&◌}
+use lib.ListN.{length, get_or}
 use Rattle.meaning.specs.Table.{rows}
 use Rattle.meaning.specs.Axis.{axis_of, principal, passes, test_of}
-use Rattle.meaning.proofs.Editions.{second_passes}
-use Rattle.meaning.proofs.Marks.{Wrote, wrote_start, wrote_ahead, wrote_more, wrote_all}
-use Rattle.marks.specs.Sets.{Sifted}
+use Rattle.meaning.proofs.Marks.{Wrote}
 use Rattle.marks.proofs.sift.Given as goal
 
 abbrev pub invariant-loop-i : goal.invariant-loop-i

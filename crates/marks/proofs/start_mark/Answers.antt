@@ -1,9 +1,7 @@
 -- `marks::start_mark` meets its contract: op 23 starts from row 0, every other op from the row given, if there is one.
 -- Assumes nothing.
 use mathlib.Core.Path.{◌∙◌}
-use mathlib.Core.Logic.{⊎_elim}
 use native.Mathlib.Omega.{arith}
-use borrow.Author.Rules.{rules}
 use borrow.Author.Tests.{eq-eqb, ne_eqb}
 use Rattle.meaning.specs.Meaning.{start_of, is_absolute}
 use Rattle.meaning.proofs.Decoding.{op_is}

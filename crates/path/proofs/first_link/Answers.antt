@@ -1,6 +1,5 @@
 -- `path::first_link` meets its contract: a link field whose value is in range, by what the reads gave.
 -- Assumes nothing.
-use borrow.Author.Rules.{rules}
 use Rattle.path.proofs.RowReads.{first_taken, first_left}
 use Rattle.path.proofs.first_link.Goals as goal
 

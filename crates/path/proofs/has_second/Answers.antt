@@ -1,6 +1,5 @@
 -- `path::has_second` meets its contract: the ops with a link in field b, computed over the table of ops.
 -- Assumes nothing.
-use borrow.Author.Rules.{rules}
 use Rattle.meaning.proofs.Decoding.{second_ops}
 use Rattle.path.proofs.has_second.Goals as goal
 

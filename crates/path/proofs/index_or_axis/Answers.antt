@@ -1,6 +1,5 @@
 -- `path::index_or_axis` meets its contract: by the op that was read.
 -- Assumes nothing.
-use borrow.Author.Rules.{rules}
 use Rattle.path.proofs.RowReads.{index_read, axis_read_lem, plain_read}
 use Rattle.path.proofs.index_or_axis.Goals as goal
 

@@ -1,6 +1,5 @@
 -- `path::second_link` meets its contract: as `first_link`, of field b.
 -- Assumes nothing.
-use borrow.Author.Rules.{rules}
 use Rattle.path.proofs.RowReads.{second_taken, second_left}
 use Rattle.path.proofs.second_link.Goals as goal
 

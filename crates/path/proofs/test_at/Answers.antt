@@ -1,6 +1,5 @@
 -- `path::test_at` meets its contract: by the op that was read.
 -- Assumes nothing.
-use borrow.Author.Rules.{rules}
 use Rattle.path.proofs.RowReads.{test_read, untested_read}
 use Rattle.path.proofs.test_at.Goals as goal
 

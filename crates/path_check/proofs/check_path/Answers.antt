@@ -3,8 +3,7 @@
 use mathlib.Core.Bool.{true, false}
 use mathlib.Core.Path.{sym, ◌∙◌}
 use native.Mathlib.Omega.{arith}
-use borrow.Author.Rules.{rules}
-use borrow.Author.Tests.{not-true, not-false, lt-ltb, le-ltb}
+use borrow.Author.Tests.{lt-ltb, le-ltb}
 use Rattle.meaning.proofs.Checks.{length_answer, literal_answer, row_answer, depth_answer, most_rows_lem}
 use Rattle.path_check.proofs.check_path.Goals as goal
 

@@ -1,11 +1,7 @@
-use Prim.Native.Nat.{◌≤◌, ◌-◌}
-use mathlib.Core.Path.{ap, ◌∙◌, refl, ◌≡◌}
-use lib.ListN.{length-set, length}
+use mathlib.Core.Path.{ap, ◌∙◌, refl}
+use lib.ListN.{length-set}
 use native.Mathlib.Omega.{arith}
-use borrow.Author.Rules.{rules}
-use Rattle.meaning.specs.Rows.{rows_of}
 use Rattle.meaning.specs.Tree.{tree, depth}
-use Rattle.path_check.specs.Passes.{Depths}
 use Rattle.path_check.proofs.Passes.{depths_start, depths_more, depths_at}
 use Rattle.path_check.proofs.depth_of.Goals as goal
 

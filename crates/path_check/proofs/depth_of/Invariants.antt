@@ -2,14 +2,10 @@
 -- The measure is the number of rows left.
 -- Assumes nothing.
 use Prim.Native.Nat.{◌≤◌, ◌-◌}
-use mathlib.Core.Path.{ap, ◌∙◌, refl, ◌≡◌}
-use lib.ListN.{length-set, length}
-use native.Mathlib.Omega.{arith}
-use borrow.Author.Rules.{rules}
+use mathlib.Core.Path.{◌≡◌}
+use lib.ListN.{length}
 use Rattle.meaning.specs.Rows.{rows_of}
-use Rattle.meaning.specs.Tree.{tree, depth}
 use Rattle.path_check.specs.Passes.{Depths}
-use Rattle.path_check.proofs.Passes.{depths_start, depths_more, depths_at}
 use Rattle.path_check.proofs.depth_of.Given as goal
 
 abbrev pub invariant-loop-row : goal.invariant-loop-row

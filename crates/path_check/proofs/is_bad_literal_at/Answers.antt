@@ -1,6 +1,5 @@
 -- `path_check::is_bad_literal_at` meets its contract: by the test of the index.
 -- Assumes nothing.
-use borrow.Author.Rules.{rules}
 use borrow.Author.Tests.{le-leb, lt-leb}
 use Rattle.meaning.specs.Rows.{bad_literal_at}
 use Rattle.path_check.proofs.is_bad_literal_at.Goals as goal

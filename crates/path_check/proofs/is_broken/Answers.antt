@@ -1,7 +1,6 @@
 -- `path_check::is_broken` meets its contract: by what was found under each rule.
 -- Assumes nothing.
 use mathlib.Core.Path.{◌∙◌}
-use borrow.Author.Rules.{rules}
 use Rattle.meaning.specs.Rows.{broken_row}
 use Rattle.path_check.proofs.is_broken.Goals as goal
 

@@ -1,7 +1,6 @@
 -- `path_check::is_length_allowed` meets its contract: by what its tests gave.
 -- Assumes nothing.
 use mathlib.Core.Path.{◌∙◌}
-use borrow.Author.Rules.{rules}
 use Rattle.meaning.specs.Rows.{path_length_allowed}
 use Rattle.path_check.proofs.is_length_allowed.Goals as goal
 

@@ -3,7 +3,6 @@
 use mathlib.Core.Bool.{false}
 use mathlib.Core.Path.{sym}
 use lib.ListN.{get_or-eq_default}
-use borrow.Author.Rules.{rules}
 use Rattle.path_check.proofs.is_marked.Goals as goal
 
 pub returns-else-l-marks : goal.returns-else-l-marks

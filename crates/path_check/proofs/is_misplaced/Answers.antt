@@ -1,7 +1,6 @@
 -- `path_check::is_misplaced` meets its contract: a mark says that some row holds the link.
 -- Assumes nothing.
 use mathlib.Core.Path.{◌∙◌, sym}
-use borrow.Author.Rules.{rules}
 use borrow.Author.Tests.{eq-eqb, ne_eqb}
 use Rattle.meaning.specs.Rows.{misplaced}
 use Rattle.path_check.proofs.Passes.{marks_at}

@@ -1,7 +1,6 @@
 -- `path_check::links_again` meets its contract: a mark says that a lower row holds the link.
 -- Assumes nothing.
 use mathlib.Core.Path.{◌∙◌}
-use borrow.Author.Rules.{rules}
 use Rattle.meaning.specs.Rows.{links_again}
 use Rattle.path_check.proofs.Passes.{marks_at}
 use Rattle.path_check.proofs.links_again.Goals as goal

@@ -1,10 +1,7 @@
-use Prim.Native.Nat.{◌≤◌, ◌-◌}
 use mathlib.Core.Path.{sym, ◌∙◌}
-use lib.ListN.{length}
 use native.Mathlib.Omega.{arith}
 use borrow.Author.Rules.{rules}
-use Rattle.meaning.specs.Rows.{bad_literal_at}
-use Rattle.meaning.proofs.Checks.{Passed, passed_start, passed_more, passed_found, passed_all}
+use Rattle.meaning.proofs.Checks.{passed_start, passed_more, passed_found, passed_all}
 use Rattle.path_check.proofs.Literals.{among_first}
 use Rattle.path_check.proofs.lowest_bad_literal.Goals as goal
 

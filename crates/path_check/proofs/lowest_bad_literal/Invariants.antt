@@ -2,13 +2,9 @@
 -- The measure is what is left of the literals.
 -- Assumes nothing.
 use Prim.Native.Nat.{◌≤◌, ◌-◌}
-use mathlib.Core.Path.{sym, ◌∙◌}
 use lib.ListN.{length}
-use native.Mathlib.Omega.{arith}
-use borrow.Author.Rules.{rules}
 use Rattle.meaning.specs.Rows.{bad_literal_at}
-use Rattle.meaning.proofs.Checks.{Passed, passed_start, passed_more, passed_found, passed_all}
-use Rattle.path_check.proofs.Literals.{among_first}
+use Rattle.meaning.proofs.Checks.{Passed}
 use Rattle.path_check.proofs.lowest_bad_literal.Given as goal
 
 abbrev pub invariant-loop-i : goal.invariant-loop-i

@@ -1,11 +1,7 @@
-use Prim.Native.Nat.{◌≤◌, ◌-◌}
-use mathlib.Core.Path.{◌≡◌, refl, sym, ◌∙◌}
-use lib.ListN.{length}
+use mathlib.Core.Path.{refl, sym, ◌∙◌}
 use native.Mathlib.Omega.{arith}
 use borrow.Author.Rules.{rules}
-use Rattle.meaning.specs.Rows.{rows_of, broken_row}
-use Rattle.meaning.proofs.Checks.{Passed, passed_start, passed_more, passed_found, passed_all}
-use Rattle.path_check.specs.Passes.{Marks}
+use Rattle.meaning.proofs.Checks.{passed_start, passed_more, passed_found, passed_all}
 use Rattle.path_check.proofs.Passes.{marks_start}
 use Rattle.path_check.proofs.lowest_broken_row.Goals as goal
 

@@ -2,14 +2,11 @@
 -- are marked apart from the links of all rows. The measure is the number of rows left.
 -- Assumes nothing.
 use Prim.Native.Nat.{◌≤◌, ◌-◌}
-use mathlib.Core.Path.{◌≡◌, refl, sym, ◌∙◌}
+use mathlib.Core.Path.{◌≡◌}
 use lib.ListN.{length}
-use native.Mathlib.Omega.{arith}
-use borrow.Author.Rules.{rules}
 use Rattle.meaning.specs.Rows.{rows_of, broken_row}
-use Rattle.meaning.proofs.Checks.{Passed, passed_start, passed_more, passed_found, passed_all}
+use Rattle.meaning.proofs.Checks.{Passed}
 use Rattle.path_check.specs.Passes.{Marks}
-use Rattle.path_check.proofs.Passes.{marks_start}
 use Rattle.path_check.proofs.lowest_broken_row.Given as goal
 
 abbrev pub invariant-loop-row : goal.invariant-loop-row

@@ -4,11 +4,8 @@
 use Prim.Native.Nat.{◌≤◌, ◌-◌}
 use mathlib.Core.Path.{◌≡◌}
 use lib.ListN.{length}
-use native.Mathlib.Omega.{arith}
-use borrow.Author.Rules.{rules}
 use Rattle.meaning.specs.Rows.{rows_of}
 use Rattle.path_check.specs.Passes.{Marks}
-use Rattle.path_check.proofs.Passes.{marks_all}
 use Rattle.path_check.proofs.mark_all_links.Given as goal
 
 abbrev pub invariant-loop-row : goal.invariant-loop-row

@@ -2,7 +2,6 @@
 -- Assumes nothing.
 use lib.ListN.{length-set}
 use native.Mathlib.Omega.{arith}
-use borrow.Author.Rules.{rules}
 use Rattle.path_check.proofs.Passes.{marks_more}
 use Rattle.path_check.proofs.mark_links.Goals as goal
 

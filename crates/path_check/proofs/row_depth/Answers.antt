@@ -3,7 +3,6 @@
 use mathlib.Core.Bool.{true, false}
 use mathlib.Core.Path.{sym, refl, ◌∙◌}
 use native.Mathlib.Omega.{arith}
-use borrow.Author.Rules.{rules}
 use Rattle.path_check.proofs.Passes.{inner_le, row_deep}
 use Rattle.path_check.proofs.row_depth.Goals as goal
 

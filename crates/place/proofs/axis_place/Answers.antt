@@ -1,10 +1,8 @@
 -- `place::axis_place` meets its contract: by what may be asked, and the place.
 -- Assumes nothing.
 use mathlib.Core.Path.{sym, ◌∙◌}
-use borrow.Author.Tests.{not-true, not-false}
 use Rattle.meaning.specs.Answers.{axis_place}
 use Rattle.meaning.proofs.Places.{asked_rows}
-use borrow.Author.Rules.{rules}
 use Rattle.place.proofs.axis_place.Goals as goal
 
 pub returns-then-not-is_askable : goal.returns-then-not-is_askable

@@ -2,7 +2,6 @@
 -- Assumes nothing.
 use Rattle.meaning.specs.Answers.{askable}
 use Rattle.meaning.proofs.Checks.{table_accepted, table_refused}
-use borrow.Author.Rules.{rules}
 use Rattle.place.proofs.is_askable.Goals as goal
 
 pub returns-then-answer-ne0 : goal.returns-then-answer-ne0

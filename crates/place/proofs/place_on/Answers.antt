@@ -1,13 +1,10 @@
-use Prim.Native.Nat.{◌-◌, ◌≤◌}
 use mathlib.Core.Path.{◌≡◌, sym, ◌∙◌}
-use mathlib.Core.Logic.{⊎_elim}
 use native.Mathlib.Omega.{arith}
 use borrow.Author.Rules.{rules}
-use borrow.Author.Tests.{not-true, not-false}
 use lib.ListN.{length}
-use Rattle.meaning.specs.Axis.{on, axis_of, ordered}
+use Rattle.meaning.specs.Axis.{ordered}
 use Rattle.meaning.proofs.Lists.{length_ordered}
-use Rattle.meaning.proofs.Filters.{Tallied, tallied_start, tallied_skip, tallied_more}
+use Rattle.meaning.proofs.Filters.{tallied_start, tallied_skip, tallied_more}
 use Rattle.meaning.proofs.Places.{place_absent, place_counted}
 use Rattle.place.proofs.place_on.Goals as goal
 use Rattle.place.proofs.place_on.Goals.{then-holds, else-holds}

@@ -2,16 +2,8 @@
 -- counted. The measure is what is left of the rows before y.
 -- Assumes nothing.
 use Prim.Native.Nat.{◌-◌, ◌≤◌}
-use mathlib.Core.Path.{◌≡◌, sym, ◌∙◌}
-use mathlib.Core.Logic.{⊎_elim}
-use native.Mathlib.Omega.{arith}
-use borrow.Author.Rules.{rules}
-use borrow.Author.Tests.{not-true, not-false}
-use lib.ListN.{length}
 use Rattle.meaning.specs.Axis.{on, axis_of, ordered}
-use Rattle.meaning.proofs.Lists.{length_ordered}
-use Rattle.meaning.proofs.Filters.{Tallied, tallied_start, tallied_skip, tallied_more}
-use Rattle.meaning.proofs.Places.{place_absent, place_counted}
+use Rattle.meaning.proofs.Filters.{Tallied}
 use Rattle.place.proofs.place_on.Given as goal
 
 abbrev pub invariant-loop-i : goal.invariant-loop-i

@@ -1,7 +1,6 @@
 -- `reach::admits` meets its contract: by the kind.
 -- Assumes nothing.
 use mathlib.Core.Path.{sym, ◌∙◌}
-use borrow.Author.Rules.{rules}
 use Rattle.reach.specs.Reach.{admitted}
 use Rattle.reach.proofs.admits.Goals as goal
 

@@ -3,7 +3,6 @@
 use mathlib.Core.Path.{sym, ◌∙◌}
 use lib.Dec.{ltb, ltb→lt, lt→ltb}
 use native.Mathlib.Omega.{arith}
-use borrow.Author.Rules.{rules}
 use borrow.Author.Tests.{ltb-true, ltb-false}
 use Rattle.reach.proofs.Sweep.{taken, left}
 use Rattle.reach.proofs.larger_if.Goals as goal

@@ -1,14 +1,9 @@
-use Prim.Native.Nat.{◌+◌, ◌-◌, ◌≤◌}
 use mathlib.Core.Path.{◌≡◌, refl, ◌∙◌}
 use mathlib.Core.Bool.{true}
-use lib.Dec.{ltb}
 use native.Mathlib.Omega.{arith}
-use borrow.Author.Rules.{rules}
 use borrow.Author.Tests.{le-ltb}
-use Rattle.meaning.specs.Lists.{up_to}
-use Rattle.meaning.specs.Table.{rows}
-use Rattle.reach.specs.Reach.{admitted, beyond}
-use Rattle.reach.proofs.Sweep.{Gathered, gathered_start, gathered_more, giving, gives, given_gathered}
+use Rattle.reach.specs.Reach.{admitted}
+use Rattle.reach.proofs.Sweep.{gathered_start, gathered_more, giving, gives, given_gathered}
 use Rattle.reach.proofs.last_marked.Goals as goal
 
 pub loop-i-init : goal.loop-i-init

@@ -2,16 +2,13 @@
 -- is what is left of the rows.
 -- Assumes nothing.
 use Prim.Native.Nat.{◌+◌, ◌-◌, ◌≤◌}
-use mathlib.Core.Path.{◌≡◌, refl, ◌∙◌}
+use mathlib.Core.Path.{◌≡◌}
 use mathlib.Core.Bool.{true}
 use lib.Dec.{ltb}
-use native.Mathlib.Omega.{arith}
-use borrow.Author.Rules.{rules}
-use borrow.Author.Tests.{le-ltb}
 use Rattle.meaning.specs.Lists.{up_to}
 use Rattle.meaning.specs.Table.{rows}
 use Rattle.reach.specs.Reach.{admitted, beyond}
-use Rattle.reach.proofs.Sweep.{Gathered, gathered_start, gathered_more, giving, gives, given_gathered}
+use Rattle.reach.proofs.Sweep.{Gathered, giving}
 use Rattle.reach.proofs.last_marked.Given as goal
 
 abbrev pub invariant-loop-i : goal.invariant-loop-i

@@ -1,16 +1,14 @@
-use Prim.Native.Nat.{◌+◌, ◌-◌, ◌<◌, ◌≤◌}
+use Prim.Native.Nat.{◌+◌, ◌-◌, ◌<◌}
 use mathlib.Core.Path.{◌≡◌, refl, ◌∙◌}
-use mathlib.Core.Bool.{true, ◌&&◌, ◌||◌}
-use lib.Dec.{ltb, eqb}
-use lib.ListN.{length, length-set}
+use mathlib.Core.Bool.{true}
+use lib.Dec.{ltb}
+use lib.ListN.{length-set}
 use native.Mathlib.Omega.{arith}
-use borrow.Author.Rules.{rules}
 use borrow.Author.Tests.{le-ltb}
 use Rattle.meaning.specs.Table.{rows}
-use Rattle.meaning.specs.Axis.{inside}
 use Rattle.meaning.proofs.Windows.{up_from}
-use Rattle.meaning.proofs.Marks.{WroteDown, down_start, down_more, down_ahead}
-use Rattle.reach.specs.Reach.{hit, admitted, beyond}
+use Rattle.meaning.proofs.Marks.{down_start, down_more, down_ahead}
+use Rattle.reach.specs.Reach.{admitted, beyond}
 use Rattle.reach.proofs.Sweep.{Gathered, gathered_top, gathered_down, giving, gives, around_hit, down_hits}
 use Rattle.reach.proofs.mark_around.Goals as goal
 

@@ -1,20 +1,17 @@
 -- `reach::mark_around` meets its contract: a number is above near exactly if a row passed that gives is below it; the rows passed are marked
 -- exactly if they are reached, and the others as they were. The measure is what is left of the rows.
 -- Assumes nothing.
-use Prim.Native.Nat.{◌+◌, ◌-◌, ◌<◌, ◌≤◌}
-use mathlib.Core.Path.{◌≡◌, refl, ◌∙◌}
+use Prim.Native.Nat.{◌+◌, ◌-◌, ◌≤◌}
+use mathlib.Core.Path.{◌≡◌}
 use mathlib.Core.Bool.{true, ◌&&◌, ◌||◌}
 use lib.Dec.{ltb, eqb}
-use lib.ListN.{length, length-set}
-use native.Mathlib.Omega.{arith}
-use borrow.Author.Rules.{rules}
-use borrow.Author.Tests.{le-ltb}
+use lib.ListN.{length}
 use Rattle.meaning.specs.Table.{rows}
 use Rattle.meaning.specs.Axis.{inside}
 use Rattle.meaning.proofs.Windows.{up_from}
-use Rattle.meaning.proofs.Marks.{WroteDown, down_start, down_more, down_ahead}
+use Rattle.meaning.proofs.Marks.{WroteDown}
 use Rattle.reach.specs.Reach.{hit, admitted, beyond}
-use Rattle.reach.proofs.Sweep.{Gathered, gathered_top, gathered_down, giving, gives, around_hit, down_hits}
+use Rattle.reach.proofs.Sweep.{Gathered, giving}
 use Rattle.reach.proofs.mark_around.Given as goal
 
 abbrev pub invariant-loop-i : goal.invariant-loop-i

@@ -1,14 +1,9 @@
-use Prim.Native.Nat.{◌-◌, ◌≤◌}
-use mathlib.Core.Path.{◌≡◌, refl, sym, ◌∙◌}
-use mathlib.Core.Bool.{true, ◌&&◌}
-use lib.ListN.{length, length-set}
+use mathlib.Core.Path.{refl, sym, ◌∙◌}
+use lib.ListN.{length-set}
 use native.Mathlib.Omega.{arith}
-use borrow.Author.Rules.{rules}
-use Rattle.meaning.specs.Table.{rows}
 use Rattle.meaning.specs.Axis.{after}
 use Rattle.meaning.proofs.Windows.{after_is}
-use Rattle.meaning.proofs.Marks.{Wrote, wrote_start, wrote_more}
-use Rattle.reach.specs.Reach.{hit, admitted}
+use Rattle.meaning.proofs.Marks.{wrote_start, wrote_more}
 use Rattle.reach.proofs.Sweep.{bound_hit, up_hits}
 use Rattle.reach.proofs.mark_before.Goals as goal
 

@@ -2,17 +2,13 @@
 -- taken. The measure is what is left of the rows.
 -- Assumes nothing.
 use Prim.Native.Nat.{◌-◌, ◌≤◌}
-use mathlib.Core.Path.{◌≡◌, refl, sym, ◌∙◌}
+use mathlib.Core.Path.{◌≡◌}
 use mathlib.Core.Bool.{true, ◌&&◌}
-use lib.ListN.{length, length-set}
-use native.Mathlib.Omega.{arith}
-use borrow.Author.Rules.{rules}
+use lib.ListN.{length}
 use Rattle.meaning.specs.Table.{rows}
 use Rattle.meaning.specs.Axis.{after}
-use Rattle.meaning.proofs.Windows.{after_is}
-use Rattle.meaning.proofs.Marks.{Wrote, wrote_start, wrote_more}
+use Rattle.meaning.proofs.Marks.{Wrote}
 use Rattle.reach.specs.Reach.{hit, admitted}
-use Rattle.reach.proofs.Sweep.{bound_hit, up_hits}
 use Rattle.reach.proofs.mark_before.Given as goal
 
 abbrev pub invariant-loop-i : goal.invariant-loop-i

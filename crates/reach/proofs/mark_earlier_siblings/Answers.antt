@@ -1,15 +1,13 @@
-use Prim.Native.Nat.{◌+◌, ◌-◌, ◌<◌, ◌≤◌}
+use Prim.Native.Nat.{◌+◌, ◌-◌, ◌<◌}
 use mathlib.Core.Path.{◌≡◌, refl, ◌∙◌}
 use mathlib.Core.Bool.{true, false}
 use lib.ListN.{length, get_or, length-set, get_or-replicate}
 use native.Mathlib.Omega.{arith}
 use borrow.Author.Rules.{rules}
 use Rattle.meaning.specs.Table.{rows, most_rows}
-use Rattle.meaning.specs.Axis.{on}
-use Rattle.meaning.specs.Axis as A
 use Rattle.meaning.proofs.Windows.{up_from}
-use Rattle.meaning.proofs.Marks.{WroteDown, down_start, down_more, down_ahead}
-use Rattle.reach.specs.Reach.{hit, admitted}
+use Rattle.meaning.proofs.Marks.{down_start, down_more, down_ahead}
+use Rattle.reach.specs.Reach.{admitted}
 use Rattle.reach.proofs.Sweep.{Gathered, gathered_top, gathered_down, giving, gives, over, rooted, earlier_hit, down_hits, flag_step}
 use Rattle.reach.proofs.mark_earlier_siblings.Goals as goal
 

@@ -1,17 +1,11 @@
-use Prim.Native.Nat.{◌+◌, ◌-◌, ◌<◌, ◌≤◌}
-use mathlib.Core.Path.{◌≡◌, refl, ◌∙◌}
-use mathlib.Core.Bool.{true, ◌&&◌, ◌||◌}
-use lib.Dec.{ltb, eqb}
-use lib.ListN.{length, length-set}
+use Prim.Native.Nat.{◌<◌}
+use mathlib.Core.Path.{refl, ◌∙◌}
+use lib.ListN.{length-set}
 use native.Mathlib.Omega.{arith}
-use borrow.Author.Rules.{rules}
 use borrow.Author.Tests.{le-ltb}
-use Rattle.meaning.specs.Lists.{up_to}
-use Rattle.meaning.specs.Table.{rows, end}
-use Rattle.meaning.specs.Axis.{inside}
-use Rattle.meaning.proofs.Marks.{Wrote, wrote_start, wrote_more, wrote_ahead}
-use Rattle.reach.specs.Reach.{hit, admitted, beyond}
-use Rattle.reach.proofs.Sweep.{Gathered, gathered_start, gathered_more, marked, inside_hit, up_hits}
+use Rattle.meaning.specs.Table.{rows}
+use Rattle.meaning.proofs.Marks.{wrote_start, wrote_more, wrote_ahead}
+use Rattle.reach.proofs.Sweep.{gathered_start, gathered_more, inside_hit, up_hits}
 use Rattle.reach.proofs.mark_inside.Goals as goal
 
 pub loop-i-init : goal.loop-i-init

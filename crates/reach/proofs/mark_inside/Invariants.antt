@@ -1,20 +1,17 @@
 -- `reach::mark_inside` meets its contract: a number is below far exactly if it is not past the end of a marked row passed; the rows passed
 -- are marked exactly if they are reached, and the others as they were. The measure is what is left of the rows.
 -- Assumes nothing.
-use Prim.Native.Nat.{◌+◌, ◌-◌, ◌<◌, ◌≤◌}
-use mathlib.Core.Path.{◌≡◌, refl, ◌∙◌}
+use Prim.Native.Nat.{◌+◌, ◌-◌, ◌≤◌}
+use mathlib.Core.Path.{◌≡◌}
 use mathlib.Core.Bool.{true, ◌&&◌, ◌||◌}
 use lib.Dec.{ltb, eqb}
-use lib.ListN.{length, length-set}
-use native.Mathlib.Omega.{arith}
-use borrow.Author.Rules.{rules}
-use borrow.Author.Tests.{le-ltb}
+use lib.ListN.{length}
 use Rattle.meaning.specs.Lists.{up_to}
 use Rattle.meaning.specs.Table.{rows, end}
 use Rattle.meaning.specs.Axis.{inside}
-use Rattle.meaning.proofs.Marks.{Wrote, wrote_start, wrote_more, wrote_ahead}
+use Rattle.meaning.proofs.Marks.{Wrote}
 use Rattle.reach.specs.Reach.{hit, admitted, beyond}
-use Rattle.reach.proofs.Sweep.{Gathered, gathered_start, gathered_more, marked, inside_hit, up_hits}
+use Rattle.reach.proofs.Sweep.{Gathered, marked}
 use Rattle.reach.proofs.mark_inside.Given as goal
 
 abbrev pub invariant-loop-i : goal.invariant-loop-i

@@ -1,16 +1,13 @@
-use Prim.Native.Nat.{◌-◌, ◌<◌, ◌≤◌}
+use Prim.Native.Nat.{◌<◌}
 use mathlib.Core.Path.{◌≡◌, refl, ◌∙◌}
 use mathlib.Core.Bool.{true, false}
-use lib.ListN.{length, get_or, length-set, get_or-replicate}
+use lib.ListN.{length, length-set, get_or-replicate}
 use native.Mathlib.Omega.{arith}
 use borrow.Author.Rules.{rules}
-use Rattle.meaning.specs.Lists.{up_to}
 use Rattle.meaning.specs.Table.{rows, most_rows}
-use Rattle.meaning.specs.Axis.{on}
-use Rattle.meaning.specs.Axis as A
-use Rattle.meaning.proofs.Marks.{Wrote, wrote_start, wrote_more, wrote_ahead}
-use Rattle.reach.specs.Reach.{hit, admitted}
-use Rattle.reach.proofs.Sweep.{Gathered, gathered_start, gathered_more, giving, gives, over, rooted, later_hit, up_hits, flag_step}
+use Rattle.meaning.proofs.Marks.{wrote_start, wrote_more, wrote_ahead}
+use Rattle.reach.specs.Reach.{admitted}
+use Rattle.reach.proofs.Sweep.{gathered_start, gathered_more, giving, gives, rooted, later_hit, up_hits, flag_step}
 use Rattle.reach.proofs.mark_later_siblings.Goals as goal
 
 pub loop-i-init : goal.loop-i-init

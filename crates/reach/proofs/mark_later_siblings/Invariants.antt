@@ -1,19 +1,17 @@
 -- `reach::mark_later_siblings` meets its contract: a row is flagged exactly if a row passed that gives has it as its parent; the rows passed
 -- are marked exactly if they are reached, and the others as they were. The measure is what is left of the rows.
 -- Assumes nothing.
-use Prim.Native.Nat.{◌-◌, ◌<◌, ◌≤◌}
-use mathlib.Core.Path.{◌≡◌, refl, ◌∙◌}
+use Prim.Native.Nat.{◌-◌, ◌≤◌}
+use mathlib.Core.Path.{◌≡◌}
 use mathlib.Core.Bool.{true, false}
-use lib.ListN.{length, get_or, length-set, get_or-replicate}
-use native.Mathlib.Omega.{arith}
-use borrow.Author.Rules.{rules}
+use lib.ListN.{length, get_or}
 use Rattle.meaning.specs.Lists.{up_to}
 use Rattle.meaning.specs.Table.{rows, most_rows}
 use Rattle.meaning.specs.Axis.{on}
 use Rattle.meaning.specs.Axis as A
-use Rattle.meaning.proofs.Marks.{Wrote, wrote_start, wrote_more, wrote_ahead}
+use Rattle.meaning.proofs.Marks.{Wrote}
 use Rattle.reach.specs.Reach.{hit, admitted}
-use Rattle.reach.proofs.Sweep.{Gathered, gathered_start, gathered_more, giving, gives, over, rooted, later_hit, up_hits, flag_step}
+use Rattle.reach.proofs.Sweep.{Gathered, giving, over}
 use Rattle.reach.proofs.mark_later_siblings.Given as goal
 
 abbrev pub invariant-loop-i : goal.invariant-loop-i

@@ -1,12 +1,10 @@
-use Prim.Native.Nat.{◌-◌, ◌<◌, ◌≤◌}
+use Prim.Native.Nat.{◌<◌}
 use mathlib.Core.Path.{◌≡◌, refl, ◌∙◌}
-use lib.ListN.{length, length-set}
+use lib.ListN.{length-set}
 use native.Mathlib.Omega.{arith}
-use borrow.Author.Rules.{rules}
-use Rattle.meaning.specs.Lists.{up_to}
 use Rattle.meaning.specs.Table.{rows}
 use Rattle.reach.specs.Reach.{admitted}
-use Rattle.reach.proofs.Sweep.{Gathered, gathered_start, gathered_more, giving, gives, over, rooted, Ahead, ahead_start, ahead_more, ahead_at, handed, handed_start, handed_more, handed_hits}
+use Rattle.reach.proofs.Sweep.{gathered_start, gathered_more, giving, gives, rooted, ahead_start, ahead_more, ahead_at, handed_start, handed_more, handed_hits}
 use Rattle.reach.proofs.mark_over.Goals as goal
 
 pub loop-i-init : goal.loop-i-init

@@ -1,15 +1,13 @@
 -- `reach::mark_over` meets its contract: of the rows passed those are marked that are the parent of a row passed that gives, and the others
 -- are as they were; a parent is among the rows passed when its child hands it its mark. The measure is what is left of the rows.
 -- Assumes nothing.
-use Prim.Native.Nat.{◌-◌, ◌<◌, ◌≤◌}
-use mathlib.Core.Path.{◌≡◌, refl, ◌∙◌}
-use lib.ListN.{length, length-set}
-use native.Mathlib.Omega.{arith}
-use borrow.Author.Rules.{rules}
+use Prim.Native.Nat.{◌-◌, ◌≤◌}
+use mathlib.Core.Path.{◌≡◌}
+use lib.ListN.{length}
 use Rattle.meaning.specs.Lists.{up_to}
 use Rattle.meaning.specs.Table.{rows}
 use Rattle.reach.specs.Reach.{admitted}
-use Rattle.reach.proofs.Sweep.{Gathered, gathered_start, gathered_more, giving, gives, over, rooted, Ahead, ahead_start, ahead_more, ahead_at, handed, handed_start, handed_more, handed_hits}
+use Rattle.reach.proofs.Sweep.{Gathered, giving, over, Ahead, handed}
 use Rattle.reach.proofs.mark_over.Given as goal
 
 abbrev pub invariant-loop-i : goal.invariant-loop-i

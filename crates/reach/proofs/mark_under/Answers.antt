@@ -1,13 +1,11 @@
-use Prim.Native.Nat.{◌+◌, ◌-◌, ◌<◌, ◌≤◌}
+use Prim.Native.Nat.{◌+◌, ◌-◌, ◌<◌}
 use mathlib.Core.Path.{◌≡◌, refl, ◌∙◌}
-use mathlib.Core.Bool.{◌&&◌}
-use lib.ListN.{length, length-set}
+use lib.ListN.{length-set}
 use native.Mathlib.Omega.{arith}
-use borrow.Author.Rules.{rules}
 use Rattle.meaning.specs.Table.{rows}
 use Rattle.meaning.specs.Axis.{under}
-use Rattle.meaning.proofs.Marks.{WroteDown, down_start, down_more, down_ahead}
-use Rattle.reach.specs.Reach.{hit, admitted}
+use Rattle.meaning.proofs.Marks.{down_start, down_more, down_ahead}
+use Rattle.reach.specs.Reach.{admitted}
 use Rattle.reach.proofs.Sweep.{rooted, under_hit, hit_take, down_hits}
 use Rattle.reach.proofs.mark_under.Goals as goal
 

@@ -1,17 +1,14 @@
 -- `reach::mark_under` meets its contract: the rows passed are marked exactly if their parent was, whose mark is not written yet, since no
 -- parent stands after its child, and they are asked for. The measure is what is left of the rows.
 -- Assumes nothing.
-use Prim.Native.Nat.{◌+◌, ◌-◌, ◌<◌, ◌≤◌}
-use mathlib.Core.Path.{◌≡◌, refl, ◌∙◌}
+use Prim.Native.Nat.{◌≤◌}
+use mathlib.Core.Path.{◌≡◌}
 use mathlib.Core.Bool.{◌&&◌}
-use lib.ListN.{length, length-set}
-use native.Mathlib.Omega.{arith}
-use borrow.Author.Rules.{rules}
+use lib.ListN.{length}
 use Rattle.meaning.specs.Table.{rows}
 use Rattle.meaning.specs.Axis.{under}
-use Rattle.meaning.proofs.Marks.{WroteDown, down_start, down_more, down_ahead}
+use Rattle.meaning.proofs.Marks.{WroteDown}
 use Rattle.reach.specs.Reach.{hit, admitted}
-use Rattle.reach.proofs.Sweep.{rooted, under_hit, hit_take, down_hits}
 use Rattle.reach.proofs.mark_under.Given as goal
 
 abbrev pub invariant-loop-i : goal.invariant-loop-i

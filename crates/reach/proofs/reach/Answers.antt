@@ -1,6 +1,5 @@
 -- `reach::reach` meets its contract: one answer for each axis, by its number; what is none of 1 to 11 reads as self, and stays.
 -- Assumes nothing.
-use borrow.Author.Rules.{rules}
 use Rattle.meaning.specs.Axis as A
 use Rattle.meaning.proofs.Decoding.{axis_rest}
 use Rattle.reach.proofs.Sweep.{hits_alike, self_hits}

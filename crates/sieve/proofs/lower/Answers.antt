@@ -1,9 +1,7 @@
-use Prim.Native.Nat.{◌-◌, ◌≤◌}
-use mathlib.Core.Path.{◌≡◌, refl, ◌∙◌}
-use lib.ListN.{length, length-set}
+use mathlib.Core.Path.{refl, ◌∙◌}
+use lib.ListN.{length-set}
 use native.Mathlib.Omega.{arith}
-use borrow.Author.Rules.{rules}
-use Rattle.sieve.specs.Sieve.{BecameTo, Lowered, lowered_of}
+use Rattle.sieve.specs.Sieve.{Lowered, lowered_of}
 use Rattle.sieve.proofs.Sieves.{became_start, became_more, became_done}
 use Rattle.sieve.proofs.lower.Goals as goal
 

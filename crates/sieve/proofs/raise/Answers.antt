@@ -1,6 +1,5 @@
 -- `sieve::raise` meets its contract: what is recast is what the first operand leaves open.
 -- Assumes nothing.
-use borrow.Author.Rules.{rules}
 use Rattle.sieve.proofs.raise.Goals as goal
 
 pub returns : goal.returns

@@ -1,12 +1,9 @@
 -- `sieve::recast` meets its contract: each state passed that was `from` is `to`, and the others are as they were. The measure is what is left of the rows.
 -- Assumes nothing.
 use Prim.Native.Nat.{◌-◌, ◌≤◌}
-use mathlib.Core.Path.{◌≡◌, refl}
-use lib.ListN.{length, length-set}
-use native.Mathlib.Omega.{arith}
-use borrow.Author.Rules.{rules}
-use Rattle.sieve.specs.Sieve.{BecameTo, Recast, recast_of}
-use Rattle.sieve.proofs.Sieves.{became_start, became_more, became_done}
+use mathlib.Core.Path.{◌≡◌}
+use lib.ListN.{length}
+use Rattle.sieve.specs.Sieve.{BecameTo, recast_of}
 use Rattle.sieve.proofs.recast.Given as goal
 
 abbrev pub invariant-loop-i : goal.invariant-loop-i

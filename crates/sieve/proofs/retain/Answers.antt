@@ -1,12 +1,8 @@
-use Prim.Native.Nat.{◌-◌, ◌≤◌}
-use mathlib.Core.Path.{◌≡◌, refl, ◌∙◌}
-use mathlib.Core.Bool.{false, ◌&&◌}
-use lib.Dec.{eqb}
-use lib.ListN.{length, get_or, length-set}
+use mathlib.Core.Path.{refl, ◌∙◌}
+use lib.ListN.{length-set}
 use native.Mathlib.Omega.{arith}
-use borrow.Author.Rules.{rules}
-use Rattle.meaning.proofs.Marks.{Wrote, wrote_start, wrote_ahead, wrote_more, wrote_all}
-use Rattle.sieve.specs.Sieve.{state, Retained}
+use Rattle.meaning.proofs.Marks.{wrote_start, wrote_ahead, wrote_more, wrote_all}
+use Rattle.sieve.specs.Sieve.{Retained}
 use Rattle.sieve.proofs.retain.Goals as goal
 
 pub loop-i-init : goal.loop-i-init

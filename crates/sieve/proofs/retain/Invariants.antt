@@ -1,14 +1,12 @@
 -- `sieve::retain` meets its contract: each mark passed stays where its row is active, and the others are as they were. The measure is what is left of the rows.
 -- Assumes nothing.
 use Prim.Native.Nat.{◌-◌, ◌≤◌}
-use mathlib.Core.Path.{◌≡◌, refl, ◌∙◌}
+use mathlib.Core.Path.{◌≡◌}
 use mathlib.Core.Bool.{false, ◌&&◌}
 use lib.Dec.{eqb}
-use lib.ListN.{length, get_or, length-set}
-use native.Mathlib.Omega.{arith}
-use borrow.Author.Rules.{rules}
-use Rattle.meaning.proofs.Marks.{Wrote, wrote_start, wrote_ahead, wrote_more, wrote_all}
-use Rattle.sieve.specs.Sieve.{state, Retained}
+use lib.ListN.{length, get_or}
+use Rattle.meaning.proofs.Marks.{Wrote}
+use Rattle.sieve.specs.Sieve.{state}
 use Rattle.sieve.proofs.retain.Given as goal
 
 abbrev pub invariant-loop-i : goal.invariant-loop-i

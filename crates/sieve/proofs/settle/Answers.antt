@@ -1,10 +1,7 @@
-use Prim.Native.Nat.{◌-◌, ◌≤◌}
-use mathlib.Core.Path.{◌≡◌, refl, ◌∙◌}
-use mathlib.Core.Bool.{false}
-use lib.ListN.{length, get_or, length-set}
+use mathlib.Core.Path.{refl, ◌∙◌}
+use lib.ListN.{length-set}
 use native.Mathlib.Omega.{arith}
-use borrow.Author.Rules.{rules}
-use Rattle.sieve.specs.Sieve.{BecameTo, Sieved, sieved_of}
+use Rattle.sieve.specs.Sieve.{Sieved, sieved_of}
 use Rattle.sieve.proofs.Sieves.{became_start, became_more, became_done}
 use Rattle.sieve.proofs.settle.Goals as goal
 

@@ -1,13 +1,10 @@
 -- `sieve::settle` meets its contract: the active states passed are decided by the marks, and the others are as they were. The measure is what is left of the rows.
 -- Assumes nothing.
 use Prim.Native.Nat.{◌-◌, ◌≤◌}
-use mathlib.Core.Path.{◌≡◌, refl, ◌∙◌}
+use mathlib.Core.Path.{◌≡◌}
 use mathlib.Core.Bool.{false}
-use lib.ListN.{length, get_or, length-set}
-use native.Mathlib.Omega.{arith}
-use borrow.Author.Rules.{rules}
-use Rattle.sieve.specs.Sieve.{BecameTo, Sieved, sieved_of}
-use Rattle.sieve.proofs.Sieves.{became_start, became_more, became_done}
+use lib.ListN.{length, get_or}
+use Rattle.sieve.specs.Sieve.{BecameTo, sieved_of}
 use Rattle.sieve.proofs.settle.Given as goal
 
 abbrev pub invariant-loop-i : goal.invariant-loop-i

@@ -1,6 +1,5 @@
 -- `sieve::settle_all` meets its contract: where the truth holds nothing changes, else every active state becomes one more.
 -- Assumes nothing.
-use borrow.Author.Rules.{rules}
 use Rattle.sieve.proofs.Sieves.{all_sieved, none_sieved}
 use Rattle.sieve.proofs.settle_all.Goals as goal
 

@@ -1,7 +1,6 @@
 -- `table::is_attribute` meets its contract: by the kind that was read.
 -- Assumes nothing.
 use mathlib.Core.Path.{◌∙◌}
-use borrow.Author.Rules.{rules}
 use Rattle.table.proofs.is_attribute.Goals as goal
 
 pub returns : goal.returns

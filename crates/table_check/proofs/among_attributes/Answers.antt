@@ -1,6 +1,5 @@
 -- `table_check::among_attributes` meets its contract: by what its reads gave.
 -- Assumes nothing.
-use borrow.Author.Rules.{rules}
 use Rattle.meaning.specs.Table.{among_attributes}
 use Rattle.table_check.proofs.among_attributes.Goals as goal
 

@@ -1,8 +1,6 @@
 -- `table_check::check_table` meets its contract: each answer is the definition's check by check.
 -- Assumes nothing.
-use borrow.Author.Rules.{rules}
 use native.Mathlib.Omega.{arith}
-use borrow.Author.Tests.{not-true, not-false}
 use mathlib.Core.Path.{◌∙◌, sym}
 use Rattle.table_check.proofs.Next.{allowed_rows}
 use Rattle.meaning.proofs.Checks.{table_length, table_row, table_whole}

@@ -1,10 +1,7 @@
-use Prim.Native.Nat.{◌≤◌, ◌-◌}
 use mathlib.Core.Path.{◌≡◌, ◌∙◌}
 use native.Mathlib.Omega.{arith}
-use borrow.Author.Rules.{rules}
 use borrow.Author.Tests.{eq-eqb, ne_eqb}
-use Rattle.meaning.specs.Table.{rows, is_element}
-use Rattle.meaning.proofs.Checks.{Passed, passed_start, passed_more, passed_found, passed_all}
+use Rattle.meaning.proofs.Checks.{passed_start, passed_more, passed_found, passed_all}
 use Rattle.table_check.proofs.first_element.Goals as goal
 
 pub loop-i-init : goal.loop-i-init

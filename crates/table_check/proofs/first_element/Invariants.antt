@@ -2,12 +2,9 @@
 -- of the rows.
 -- Assumes nothing.
 use Prim.Native.Nat.{◌≤◌, ◌-◌}
-use mathlib.Core.Path.{◌≡◌, ◌∙◌}
-use native.Mathlib.Omega.{arith}
-use borrow.Author.Rules.{rules}
-use borrow.Author.Tests.{eq-eqb, ne_eqb}
+use mathlib.Core.Path.{◌≡◌}
 use Rattle.meaning.specs.Table.{rows, is_element}
-use Rattle.meaning.proofs.Checks.{Passed, passed_start, passed_more, passed_found, passed_all}
+use Rattle.meaning.proofs.Checks.{Passed}
 use Rattle.table_check.proofs.first_element.Given as goal
 
 abbrev pub invariant-loop-i : goal.invariant-loop-i

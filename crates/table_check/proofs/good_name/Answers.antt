@@ -1,6 +1,5 @@
 -- `table_check::good_name` meets its contract: by what its tests gave.
 -- Assumes nothing.
-use borrow.Author.Rules.{rules}
 use Rattle.meaning.specs.Table.{good_name}
 use Rattle.table_check.proofs.good_name.Goals as goal
 

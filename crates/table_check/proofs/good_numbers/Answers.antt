@@ -1,7 +1,6 @@
 -- `table_check::good_numbers` meets its contract: by what its tests gave.
 -- Assumes nothing.
 use Rattle.meaning.specs.Table.{good_size}
-use borrow.Author.Rules.{rules}
 use Rattle.table_check.proofs.good_numbers.Goals as goal
 
 pub returns : goal.returns

@@ -1,7 +1,6 @@
 -- `table_check::good_root` meets its contract: by what its reads gave; the table has an element exactly if the first stands below the row
 -- count.
 -- Assumes nothing.
-use borrow.Author.Rules.{rules}
 use Rattle.meaning.specs.Table.{good_root}
 use Rattle.table_check.proofs.Siblings.{has_first}
 use Rattle.table_check.proofs.good_root.Goals as goal

@@ -1,6 +1,5 @@
 -- `table_check::is_unlisted` meets its contract: the kind and the name are those of the row.
 -- Assumes nothing.
-use borrow.Author.Rules.{rules}
 use Rattle.table_check.specs.Names.{unlisted}
 use Rattle.table_check.proofs.is_unlisted.Goals as goal
 

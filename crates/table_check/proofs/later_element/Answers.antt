@@ -2,7 +2,6 @@
 -- element.
 -- Assumes nothing.
 use mathlib.Core.Path.{sym, ◌∙◌}
-use borrow.Author.Rules.{rules}
 use Rattle.table_check.proofs.Siblings.{later_than_first}
 use Rattle.table_check.proofs.later_element.Goals as goal
 

@@ -1,6 +1,5 @@
 -- `table_check::length_allowed` meets its contract: by what its tests gave.
 -- Assumes nothing.
-use borrow.Author.Rules.{rules}
 use Rattle.meaning.specs.Table as T
 use Rattle.table_check.proofs.length_allowed.Goals as goal
 

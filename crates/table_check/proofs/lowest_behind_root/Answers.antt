@@ -1,13 +1,8 @@
 use borrow.Author.Rules.{rules}
-use borrow.Author.Tests.{not-true, not-false}
 use native.Mathlib.Omega.{arith}
 use mathlib.Core.Path.{◌≡◌, refl, ◌∙◌, sym}
-use Prim.Native.Nat.{◌<◌, ◌≤◌, ◌-◌}
-use lib.ListN.{length}
-use Rattle.meaning.specs.Table.{rows, most_rows}
-use Rattle.meaning.proofs.Checks.{Passed, passed_more, passed_found, passed_all}
-use Rattle.table_check.specs.Next.{Next}
-use Rattle.table_check.specs.Names.{Seen, stopped}
+use Rattle.meaning.proofs.Checks.{passed_more, passed_found, passed_all}
+use Rattle.table_check.specs.Names.{stopped}
 use Rattle.table_check.proofs.Next.{next_start, passed_behind}
 use Rattle.table_check.proofs.Stops.{stops_here, goes_past, passed_root, passed_sound, passed_good}
 use Rattle.table_check.proofs.lowest_behind_root.Goals as goal

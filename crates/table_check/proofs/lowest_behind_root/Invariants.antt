@@ -1,18 +1,13 @@
 -- `table_check::lowest_behind_root` meets its contract: the loop's invariant is that the pass stops at no row below i, where the next child
 -- of each must stand, and the last element with each attribute's name; the measure is what is left of the rows.
 -- Assumes nothing.
-use borrow.Author.Rules.{rules}
-use borrow.Author.Tests.{not-true, not-false}
-use native.Mathlib.Omega.{arith}
-use mathlib.Core.Path.{◌≡◌, refl, ◌∙◌, sym}
+use mathlib.Core.Path.{◌≡◌}
 use Prim.Native.Nat.{◌<◌, ◌≤◌, ◌-◌}
 use lib.ListN.{length}
 use Rattle.meaning.specs.Table.{rows, most_rows}
-use Rattle.meaning.proofs.Checks.{Passed, passed_more, passed_found, passed_all}
+use Rattle.meaning.proofs.Checks.{Passed}
 use Rattle.table_check.specs.Next.{Next}
 use Rattle.table_check.specs.Names.{Seen, stopped}
-use Rattle.table_check.proofs.Next.{next_start, passed_behind}
-use Rattle.table_check.proofs.Stops.{stops_here, goes_past, passed_root, passed_sound, passed_good}
 use Rattle.table_check.proofs.lowest_behind_root.Given as goal
 
 abbrev pub invariant-loop-i : goal.invariant-loop-i

@@ -1,8 +1,6 @@
 -- `table_check::lowest_broken_row` meets its contract: the root is the lowest broken row if it is one; else a pass with no name seen yet stops
 -- at the lowest broken row, unless it stops at a name without room, and with room for all names it does not.
 -- Assumes nothing.
-use borrow.Author.Rules.{rules}
-use borrow.Author.Tests.{not-true, not-false}
 use native.Mathlib.Omega.{arith}
 use mathlib.Core.Path.{◌∙◌, sym}
 use Rattle.meaning.proofs.Bools.{untrue}

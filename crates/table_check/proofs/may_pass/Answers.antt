@@ -1,8 +1,6 @@
 -- `table_check::may_pass` meets its contract: a row that is not well placed is not good, and of one that is, the rules for its kind and its
 -- place gave their answers.
 -- Assumes nothing.
-use borrow.Author.Rules.{rules}
-use borrow.Author.Tests.{not-true, not-false}
 use mathlib.Core.Path.{sym, ◌∙◌}
 use mathlib.Core.Bool.{and-true}
 use Rattle.table_check.proofs.Next.{ill_placed, good_of_root, good_inner, placed_parent}

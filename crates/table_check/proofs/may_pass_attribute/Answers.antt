@@ -1,8 +1,6 @@
 -- `table_check::may_pass_attribute` meets its contract: the pass stops at a name without room; and the row is there again exactly if its
 -- element is the last one with its name.
 -- Assumes nothing.
-use borrow.Author.Rules.{rules}
-use borrow.Author.Tests.{not-true, not-false}
 use native.Mathlib.Omega.{arith}
 use mathlib.Core.Path.{sym, ◌∙◌}
 use mathlib.Core.Bool.{and-true, and-false}

@@ -1,7 +1,6 @@
 -- `table_check::pass_name` meets its contract: a sound attribute's element is the last one with its name, and any other row leaves what is
 -- seen.
 -- Assumes nothing.
-use borrow.Author.Rules.{rules}
 use native.Mathlib.Omega.{arith}
 use mathlib.Core.Path.{sym, ◌∙◌}
 use Rattle.meaning.proofs.Bools.{truly}

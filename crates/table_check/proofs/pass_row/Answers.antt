@@ -3,7 +3,6 @@
 use lib.ListN.{length-set}
 use native.Mathlib.Omega.{arith}
 use Rattle.table_check.proofs.Next.{sound_child, parent_stands, next_more}
-use borrow.Author.Rules.{rules}
 use Rattle.table_check.proofs.pass_row.Goals as goal
 
 pub overflow_cast-next-2 : goal.overflow_cast-next-2

@@ -1,7 +1,6 @@
 -- `table_check::text_after_text` meets its contract: a text's previous sibling is text exactly if the row before is one with the same parent.
 -- Assumes nothing.
 use mathlib.Core.Path.{sym, ◌∙◌}
-use borrow.Author.Rules.{rules}
 use borrow.Author.Tests.{ne_eqb}
 use Rattle.meaning.specs.Table.{text_after_text}
 use Rattle.table_check.proofs.Siblings.{text_before}

@@ -1,6 +1,5 @@
 -- `table_check::text_of_root` meets its contract: by what its reads gave.
 -- Assumes nothing.
-use borrow.Author.Rules.{rules}
 use Rattle.meaning.specs.Table.{text_of_root}
 use Rattle.table_check.proofs.text_of_root.Goals as goal
 

@@ -8,7 +8,6 @@ use mathlib.Core.Bool.{and-false}
 use Rattle.meaning.specs.Table.{parent_of, good_row}
 use Rattle.table_check.specs.Next.{Next}
 use Rattle.table_check.proofs.Next.{placed, misplaced}
-use borrow.Author.Rules.{rules}
 use Rattle.table_check.proofs.well_placed.Goals as goal
 
 pub returns-then-i-parent : goal.returns-then-i-parent

@@ -1,7 +1,6 @@
 use mathlib.Core.Path.{◌∙◌}
 use borrow.Author.Rules.{rules}
 use Rattle.meaning.proofs.Counting.{steps_none, first_none, steps_row, first_row}
-use Prim.Native.Nat.{ℕ, ◌<◌}
 use Rattle.turn.proofs.+steps_of.Goals as goal
 
 pub returns-then-last-eq0 : goal.returns-then-last-eq0

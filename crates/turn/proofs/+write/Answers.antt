@@ -1,7 +1,5 @@
-use borrow.Author.Rules.{rules}
 use native.Mathlib.Omega.{arith}
 use Rattle.meaning.proofs.Written.{write_none, write_row, weight_row}
-use Prim.Native.Nat.{ℕ, ◌<◌}
 use Rattle.turn.proofs.+write.Goals as goal
 
 pub returns-then-from-eq0 : goal.returns-then-from-eq0

@@ -1,10 +1,6 @@
 -- `turn::write` meets its contract: the whole of a, the whole of b and the row are runs of stores one behind the other, so they are one run, the tree's rows.
 -- There is room since a row's tree has the rows of its links' trees and one more; the measure is the link, which falls.
 -- Assumes nothing.
-use borrow.Author.Rules.{rules}
-use native.Mathlib.Omega.{arith}
-use Rattle.meaning.proofs.Written.{write_none, write_row, weight_row}
-use Prim.Native.Nat.{ℕ, ◌<◌}
 use Rattle.turn.proofs.+write.Given as goal
 
 abbrev pub decreases-write : goal.decreases-write

@@ -1,6 +1,5 @@
 -- `turn::copy_row` meets its contract: the five numbers are those of the row, by whether its op is a literal.
 -- Assumes nothing.
-use borrow.Author.Rules.{rules}
 use lib.Seq.{sets}
 use mathlib.Core.Path.{ap, ◌∙◌}
 use Rattle.meaning.proofs.Written.{literal_row, other_row}

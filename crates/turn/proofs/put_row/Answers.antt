@@ -1,6 +1,5 @@
 -- `turn::put_row` meets its contract: five stores one behind the other are a run of stores.
 -- Assumes nothing.
-use borrow.Author.Rules.{rules}
 use Rattle.meaning.proofs.Written.{five_stores}
 use Rattle.turn.proofs.put_row.Goals as goal
 

@@ -1,5 +1,4 @@
-use borrow.Author.Rules.{rules}
-use Rattle.turn.proofs.Chain.{behind_length, Behind, few_predicates, behind_start, behind_room, behind_step, behind_done}
+use Rattle.turn.proofs.Chain.{behind_length, few_predicates, behind_start, behind_room, behind_step, behind_done}
 use Rattle.meaning.specs.Tree.{tree}
 use native.Mathlib.Omega.{arith}
 use Rattle.turn.proofs.write_chain.Goals as goal

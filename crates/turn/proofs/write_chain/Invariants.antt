@@ -1,10 +1,7 @@
 -- `turn::write_chain` meets its contract: the loop's invariant is `Behind`: the rows of some steps stand at the front, and with the steps that are left they make the chain.
 -- The measure is the link, which falls.
 -- Assumes nothing.
-use borrow.Author.Rules.{rules}
-use Rattle.turn.proofs.Chain.{behind_length, Behind, few_predicates, behind_start, behind_room, behind_step, behind_done}
-use Rattle.meaning.specs.Tree.{tree}
-use native.Mathlib.Omega.{arith}
+use Rattle.turn.proofs.Chain.{Behind}
 use Rattle.turn.proofs.write_chain.Given as goal
 
 abbrev pub invariant-loop-from : goal.invariant-loop-from

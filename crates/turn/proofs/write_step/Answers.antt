@@ -1,6 +1,5 @@
 -- `turn::write_step` meets its contract: the rows of the predicates, then the row of the step, are one run of stores.
 -- Assumes nothing.
-use borrow.Author.Rules.{rules}
 use Rattle.meaning.specs.Turning.{weight}
 use Rattle.turn.proofs.Chain.{step_stored}
 use mathlib.Core.Path.{ap}

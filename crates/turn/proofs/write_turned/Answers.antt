@@ -1,6 +1,5 @@
 -- `turn::write_turned` meets its contract: the chain's rows, then the path's own row, are the turned path's rows.
 -- Assumes nothing.
-use borrow.Author.Rules.{rules}
 use Rattle.turn.proofs.Answered.{chain_fits, row_fits, turned_stored}
 use native.Mathlib.Omega.{arith}
 use Rattle.turn.proofs.write_turned.Goals as goal

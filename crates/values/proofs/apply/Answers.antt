@@ -3,7 +3,6 @@
 use Rattle.meaning.specs.Rows.{op_of}
 use Rattle.meaning.specs.Meaning.{applied}
 use Rattle.meaning.proofs.Evaluation.{no_expression}
-use borrow.Author.Rules.{rules}
 use Rattle.values.proofs.apply.Goals as goal
 
 pub returns-in-1 : goal.returns-in-1

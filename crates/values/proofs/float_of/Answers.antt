@@ -4,7 +4,6 @@ use mathlib.Core.Path.{refl}
 use native.Mathlib.Omega.{arith}
 use Rattle.meaning.specs.Meaning.{float}
 use Rattle.meaning.proofs.Numbers.{float_exact}
-use borrow.Author.Rules.{rules}
 use Rattle.values.proofs.float_of.Goals as goal
 
 pub returns : goal.returns

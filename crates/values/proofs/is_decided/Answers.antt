@@ -2,7 +2,6 @@
 -- Assumes nothing.
 use mathlib.Core.Path.{◌∙◌}
 use native.Mathlib.Omega.{arith}
-use borrow.Author.Rules.{rules}
 use Rattle.meaning.proofs.Decoding.{op_is}
 use Rattle.meaning.proofs.Applied.{decides}
 use Rattle.values.proofs.is_decided.Goals as goal

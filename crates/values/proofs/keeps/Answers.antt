@@ -2,7 +2,6 @@
 -- Assumes nothing.
 use mathlib.Core.Path.{sym, ap}
 use Rattle.meaning.specs.Meaning.{holds}
-use borrow.Author.Rules.{rules}
 use Rattle.values.proofs.keeps.Goals as goal
 
 pub returns-in-Number : goal.returns-in-Number

@@ -3,7 +3,6 @@
 use mathlib.Core.Path.{sym}
 use lib.ListN.{get_or-eq_default}
 use lib.Ieee
-use borrow.Author.Rules.{rules}
 use Rattle.values.proofs.literal_at.Goals as goal
 
 pub returns-else-i-literals : goal.returns-else-i-literals

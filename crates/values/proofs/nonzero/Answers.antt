@@ -4,7 +4,6 @@ use mathlib.Core.Path.{sym, ◌∙◌}
 use lib.Ieee
 use Rattle.meaning.specs.Meaning.{float}
 use Rattle.meaning.proofs.Numbers.{nonzero_by}
-use borrow.Author.Rules.{rules}
 use Rattle.values.proofs.nonzero.Goals as goal
 
 pub returns : goal.returns

@@ -3,7 +3,6 @@
 use mathlib.Core.Path.{sym, ap}
 use lib.Ieee
 use Rattle.meaning.specs.Meaning.{number_of}
-use borrow.Author.Rules.{rules}
 use Rattle.values.proofs.number_of.Goals as goal
 
 pub returns-in-Truth : goal.returns-in-Truth

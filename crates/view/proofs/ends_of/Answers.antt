@@ -1,6 +1,5 @@
 -- `view::ends_of` meets its contract: a list that may be viewed rises, so halving finds both ends.
 -- Assumes nothing.
-use borrow.Author.Tests.{not-true, not-false}
 use mathlib.Core.Path.{◌∙◌, sym}
 use Rattle.meaning.proofs.View.{viewable_rises, viewable_row, part_refused, part_none, part_some}
 use borrow.Author.Rules.{rules}

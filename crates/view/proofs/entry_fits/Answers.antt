@@ -2,7 +2,6 @@
 -- Assumes nothing.
 use borrow.Author.Tests.{eq-eqb, ne_eqb}
 use Rattle.meaning.specs.View.{entry_fits}
-use borrow.Author.Rules.{rules}
 use Rattle.view.proofs.entry_fits.Goals as goal
 
 pub returns-then-i-eq0 : goal.returns-then-i-eq0

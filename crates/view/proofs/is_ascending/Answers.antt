@@ -1,12 +1,7 @@
-use borrow.Author.Rules.{rules}
-use borrow.Author.Tests.{not-true}
 use native.Mathlib.Omega.{arith}
 use mathlib.Core.Path.{◌∙◌, sym, ap}
 use mathlib.Core.Bool.{not}
-use Prim.Native.Nat.{◌-◌}
-use lib.ListN.{length}
-use Rattle.meaning.specs.View.{entry_fits}
-use Rattle.meaning.proofs.Checks.{Passed, passed_start, passed_more}
+use Rattle.meaning.proofs.Checks.{passed_start, passed_more}
 use Rattle.meaning.proofs.View.{ascending_whole, ascending_broken}
 use Rattle.view.proofs.is_ascending.Goals as goal
 

@@ -1,15 +1,10 @@
 -- `view::is_ascending` meets its contract: the loop's invariant is that each entry below i fits; the measure is what is left of the list.
 -- Assumes nothing.
-use borrow.Author.Rules.{rules}
-use borrow.Author.Tests.{not-true}
-use native.Mathlib.Omega.{arith}
-use mathlib.Core.Path.{◌∙◌, sym, ap}
 use mathlib.Core.Bool.{not}
 use Prim.Native.Nat.{◌-◌}
 use lib.ListN.{length}
 use Rattle.meaning.specs.View.{entry_fits}
-use Rattle.meaning.proofs.Checks.{Passed, passed_start, passed_more}
-use Rattle.meaning.proofs.View.{ascending_whole, ascending_broken}
+use Rattle.meaning.proofs.Checks.{Passed}
 use Rattle.view.proofs.is_ascending.Given as goal
 
 abbrev pub invariant-loop-i : goal.invariant-loop-i

@@ -1,10 +1,8 @@
 -- `view::is_viewable` meets its contract: check by check, by what the checks gave.
 -- Assumes nothing.
-use borrow.Author.Tests.{not-true, not-false}
 use mathlib.Core.Path.{◌∙◌, sym}
 use Rattle.meaning.proofs.Checks.{table_accepted, table_refused}
 use Rattle.meaning.proofs.View.{view_refused, view_outside, view_allowed}
-use borrow.Author.Rules.{rules}
 use Rattle.view.proofs.is_viewable.Goals as goal
 
 pub returns-then-answer-ne0 : goal.returns-then-answer-ne0

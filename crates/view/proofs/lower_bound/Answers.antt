@@ -1,7 +1,5 @@
-use borrow.Author.Rules.{rules}
 use native.Mathlib.Omega.{arith}
-use Prim.Native.Nat.{◌-◌}
-use Rattle.meaning.proofs.View.{Bracket, bracket_start, bracket_up, bracket_down, bracket_met}
+use Rattle.meaning.proofs.View.{bracket_start, bracket_up, bracket_down, bracket_met}
 use Rattle.view.proofs.lower_bound.Goals as goal
 
 pub loop-low-init : goal.loop-low-init

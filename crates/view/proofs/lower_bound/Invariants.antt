@@ -1,9 +1,7 @@
 -- `view::lower_bound` meets its contract: the loop's invariant is that the index lies from low to high; the measure is high - low.
 -- Assumes nothing.
-use borrow.Author.Rules.{rules}
-use native.Mathlib.Omega.{arith}
 use Prim.Native.Nat.{◌-◌}
-use Rattle.meaning.proofs.View.{Bracket, bracket_start, bracket_up, bracket_down, bracket_met}
+use Rattle.meaning.proofs.View.{Bracket}
 use Rattle.view.proofs.lower_bound.Given as goal
 
 abbrev pub invariant-loop-low : goal.invariant-loop-low

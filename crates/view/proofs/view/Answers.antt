@@ -3,7 +3,6 @@
 use native.Mathlib.Omega.{arith}
 use mathlib.Core.Path.{refl}
 use Rattle.meaning.proofs.View.{part_cuts, part_shows}
-use borrow.Author.Rules.{rules}
 use Rattle.view.proofs.view.Goals as goal
 
 pub overflow_add-end : goal.overflow_add-end

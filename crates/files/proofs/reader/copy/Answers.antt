@@ -1,11 +1,9 @@
-use Prim.Native.Nat.{suc, ◌+◌, ◌-◌, ◌<◌, ◌≤◌}
+use Prim.Native.Nat.{suc, ◌<◌}
 use native.Mathlib.Omega.{arith}
 use native.Mathlib.Numerals.{add-one}
 use mathlib.Core.Path.{◌≡◌, refl, sym, ◌∙◌}
-use mathlib.Core.List.{◌++◌}
 use lib.ListN.{length, get_or, take, drop, length-set}
 use lib.Seq.{take-suc, take-length, length-take-le, drop-cons, set_at, append_snoc}
-use borrow.Author.Rules.{rules}
 use Rattle.files.proofs.reader.copy.Goals as goal
 
 pub loop-i-init : goal.loop-i-init

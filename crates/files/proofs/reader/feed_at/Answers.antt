@@ -2,7 +2,6 @@
 -- Assumes nothing.
 use mathlib.Core.Path.{refl}
 use lib.ListN.{get_or-eq_default}
-use borrow.Author.Rules.{rules}
 use Rattle.files.proofs.reader.feed_at.Goals as goal
 
 pub returns-then-i-text : goal.returns-then-i-text

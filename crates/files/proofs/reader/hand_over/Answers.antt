@@ -2,7 +2,6 @@
 -- Assumes nothing.
 use native.Mathlib.Omega.{arith}
 use mathlib.Core.Path.{sym, ap, ◌∙◌}
-use borrow.Author.Rules.{rules}
 use Rattle.meaning.specs.declared.Answer.{Answer}
 use Rattle.files.proofs.Outcome.{refuses, writes, same_answer, read_short, read_broken, read_whole}
 use Rattle.files.proofs.reader.hand_over.Goals as goal

@@ -3,8 +3,6 @@
 use mathlib.Core.Path.{◌≡◌, sym, ◌∙◌}
 use mathlib.Core.Logic.{inl, inr, ⊎_elim}
 use mathlib.Core.Bool.{true}
-use borrow.Author.Rules.{rules}
-use borrow.Author.Tests.{not-true, not-false, ltb-true, ltb-false}
 use Rattle.files.specs.Parts.{begins}
 use Rattle.decimal.specs.Decimal.{ascii}
 use Rattle.files.proofs.Heads.{head_first, head_length, head_none, head_outside, head_rows}

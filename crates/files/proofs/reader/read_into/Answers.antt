@@ -1,7 +1,6 @@
 -- `files::reader::read_into` meets its contract: the file's form, and for a good one what handing it over answers.
 -- Assumes nothing.
 use native.Mathlib.Omega.{arith}
-use borrow.Author.Rules.{rules}
 use Rattle.files.proofs.Passing.{passed_none, told_bad, told_good, good_holds}
 use Rattle.files.proofs.Outcome.{reads_bad, reads_good}
 use Rattle.files.proofs.reader.read_into.Goals as goal

@@ -5,8 +5,6 @@ use mathlib.Core.Path.{◌≡◌, sym, ◌∙◌}
 use mathlib.Core.Bool.{true}
 use lib.ListN.{get_or}
 use lib.Dec.{eqb}
-use borrow.Author.Rules.{rules}
-use borrow.Author.Tests.{not-true, not-false}
 use Rattle.files.proofs.Keyed.{feed_inside, no_key, no_number, no_feed, line_found}
 use Rattle.files.proofs.reader.read_line.Goals as goal
 

@@ -1,6 +1,5 @@
 -- `files::reader::read_number` meets its contract: the key by the number's remainder.
 -- Assumes nothing.
-use borrow.Author.Rules.{rules}
 use Rattle.files.specs.Files.{key}
 use Rattle.files.proofs.Lines.{key_at, last_key}
 use Rattle.files.proofs.reader.read_number.Goals as goal

@@ -1,9 +1,7 @@
-use Prim.Native.Nat.{◌-◌, ◌<◌, ◌≤◌}
+use Prim.Native.Nat.{◌<◌}
 use native.Mathlib.Omega.{arith}
-use mathlib.Core.Path.{◌≡◌, refl}
+use mathlib.Core.Path.{refl}
 use lib.ListN.{length, length-set}
-use borrow.Author.Rules.{rules}
-use Rattle.files.specs.Parts.{Passed}
 use Rattle.files.proofs.Passing.{passed_more, refused_number, refused_last, taken}
 use Rattle.files.proofs.reader.read_numbers.Goals as goal
 

@@ -1,13 +1,10 @@
 -- `files::reader::read_numbers` meets its contract. The loop's invariant: the lines before number i have been read (`Passed`), of as many
 -- numbers as there are. The measure is what is left of the numbers.
 -- Assumes nothing.
-use Prim.Native.Nat.{◌-◌, ◌<◌, ◌≤◌}
-use native.Mathlib.Omega.{arith}
-use mathlib.Core.Path.{◌≡◌, refl}
-use lib.ListN.{length, length-set}
-use borrow.Author.Rules.{rules}
+use Prim.Native.Nat.{◌-◌, ◌≤◌}
+use mathlib.Core.Path.{◌≡◌}
+use lib.ListN.{length}
 use Rattle.files.specs.Parts.{Passed}
-use Rattle.files.proofs.Passing.{passed_more, refused_number, refused_last, taken}
 use Rattle.files.proofs.reader.read_numbers.Given as goal
 
 abbrev pub invariant-loop-i : goal.invariant-loop-i

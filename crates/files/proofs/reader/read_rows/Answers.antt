@@ -5,7 +5,6 @@ use native.Mathlib.Omega.{arith}
 use mathlib.Core.Path.{◌≡◌, sym}
 use lib.ListN.{length, take, replicate, length-replicate}
 use lib.Seq.{length-take-le}
-use borrow.Author.Rules.{rules}
 use Rattle.meaning.specs.Table.{most_rows}
 use Rattle.files.proofs.Passing.{head_few}
 use Rattle.files.proofs.reader.read_rows.Goals as goal

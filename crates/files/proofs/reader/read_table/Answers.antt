@@ -1,6 +1,5 @@
 -- `files::reader::read_table` meets its contract: by the first two lines.
 -- Assumes nothing.
-use borrow.Author.Rules.{rules}
 use Rattle.files.proofs.Passing.{head_bad}
 use Rattle.files.proofs.Outcome.{reads_bad}
 use Rattle.files.proofs.reader.read_table.Goals as goal

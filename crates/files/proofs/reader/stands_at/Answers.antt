@@ -1,9 +1,7 @@
-use Prim.Native.Nat.{◌+◌, ◌-◌, ◌<◌, ◌≤◌}
+use Prim.Native.Nat.{◌+◌, ◌<◌}
 use native.Mathlib.Omega.{arith}
 use mathlib.Core.Path.{◌≡◌, sym, ◌∙◌}
-use lib.ListN.{length, drop, length-drop}
-use borrow.Author.Rules.{rules}
-use Rattle.files.specs.Parts.{begins}
+use lib.ListN.{length, length-drop}
 use Rattle.files.proofs.Keyed.{begins_short, begins_more, begins_other, begins_all}
 use Rattle.files.proofs.reader.stands_at.Goals as goal
 

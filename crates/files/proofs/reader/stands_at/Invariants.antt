@@ -1,13 +1,10 @@
 -- `files::reader::stands_at` meets its contract. The loop's invariant: what is left of the word is begun with exactly if the whole is. The
 -- measure is what is left of the word.
 -- Assumes nothing.
-use Prim.Native.Nat.{◌+◌, ◌-◌, ◌<◌, ◌≤◌}
-use native.Mathlib.Omega.{arith}
-use mathlib.Core.Path.{◌≡◌, sym, ◌∙◌}
-use lib.ListN.{length, drop, length-drop}
-use borrow.Author.Rules.{rules}
+use Prim.Native.Nat.{◌+◌, ◌-◌, ◌≤◌}
+use mathlib.Core.Path.{◌≡◌}
+use lib.ListN.{length, drop}
 use Rattle.files.specs.Parts.{begins}
-use Rattle.files.proofs.Keyed.{begins_short, begins_more, begins_other, begins_all}
 use Rattle.files.proofs.reader.stands_at.Given as goal
 
 abbrev pub invariant-loop-i : goal.invariant-loop-i

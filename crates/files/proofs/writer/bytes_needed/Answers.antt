@@ -1,4 +1,4 @@
-use Prim.Native.Nat.{ℕ, ◌+◌, ◌-◌, ◌*◌, ◌≤◌}
+use Prim.Native.Nat.{ℕ, ◌+◌}
 use native.Mathlib.Omega.{arith}
 use mathlib.Core.Path.{◌≡◌, ap, ◌∙◌}
 use mathlib.Core.List.{List}
@@ -10,7 +10,6 @@ use Rattle.files.specs.Parts.{heading, lines_before}
 use Rattle.files.proofs.Lines.{length_more, all_before}
 use Rattle.meaning.proofs.Tables.{length_within_lem}
 use Rattle.files.proofs.Written.{heading_length}
-use borrow.Author.Rules.{rules}
 use Rattle.files.proofs.writer.bytes_needed.Goals as goal
 
 pub overflow_cast-table : goal.overflow_cast-table

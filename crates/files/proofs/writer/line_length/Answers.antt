@@ -1,9 +1,7 @@
 -- `files::writer::line_length` meets its contract: the line of a parent is two bytes longer than the others.
 -- Assumes nothing.
 use native.Mathlib.Omega.{arith}
-use mathlib.Core.Logic.{⊎_elim}
 use Rattle.files.proofs.Written.{line_parent, line_other}
-use borrow.Author.Rules.{rules}
 use Rattle.files.proofs.writer.line_length.Goals as goal
 use Rattle.files.proofs.writer.line_length.Goals.{then-i-eq2, else-i-eq2}
 

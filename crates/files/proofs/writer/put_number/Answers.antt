@@ -2,7 +2,6 @@
 -- Assumes nothing.
 use Rattle.files.specs.Files.{line, key}
 use Rattle.files.proofs.Lines.{key_at, last_key}
-use borrow.Author.Rules.{rules}
 use Rattle.files.proofs.writer.put_number.Goals as goal
 
 pub put_line-requires : goal.put_line-requires

@@ -1,14 +1,12 @@
-use Prim.Native.Nat.{◌+◌, ◌-◌, ◌<◌, ◌≤◌}
+use Prim.Native.Nat.{◌+◌, ◌<◌}
 use native.Mathlib.Omega.{arith}
 use mathlib.Core.Path.{◌≡◌, refl, sym, ◌∙◌}
 use mathlib.Core.List.{[]}
 use lib.ListN.{length, get_or, take}
 use lib.Seq.{take-length}
-use Rattle.decimal.specs.Decimal.{laid}
 use Rattle.decimal.proofs.Laid.{laid_none, laid_laid}
 use Rattle.files.specs.Files.{line, key, number_lines, joined}
 use Rattle.files.proofs.Lines.{joined_more, joined_le, length_more}
-use borrow.Author.Rules.{rules}
 use Rattle.files.proofs.writer.put_numbers.Goals as goal
 
 pub loop-i-init : goal.loop-i-init

@@ -4,7 +4,6 @@ use native.Mathlib.Omega.{arith}
 use Rattle.files.specs.Files.{line}
 use Rattle.meaning.proofs.Tables.{length_within_lem}
 use Rattle.files.proofs.Written.{bytes_length, table_laid}
-use borrow.Author.Rules.{rules}
 use Rattle.files.proofs.writer.put_table.Goals as goal
 
 pub put_line-second-requires : goal.put_line-second-requires

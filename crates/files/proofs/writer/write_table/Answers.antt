@@ -9,7 +9,6 @@ use Rattle.meaning.proofs.Tables as T
 use Rattle.decimal.proofs.Laid.{laid_front}
 use Rattle.files.specs.Files.{bytes_of}
 use Rattle.files.proofs.Outcome.{refuses, writes, same_answer, write_broken, write_short, write_whole}
-use borrow.Author.Rules.{rules}
 use Rattle.files.proofs.writer.write_table.Goals as goal
 
 pub returns-then-checked-ne0 : goal.returns-then-checked-ne0

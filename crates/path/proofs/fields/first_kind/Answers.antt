@@ -2,7 +2,6 @@
 -- Assumes nothing.
 use mathlib.Core.Path.{sym, ap, ◌∙◌}
 use lib.ListN.{get_or-eq_default}
-use borrow.Author.Rules.{rules}
 use Rattle.path.specs.Kinds.{field_of}
 use Rattle.path.proofs.FieldKinds.{first, first_right}
 use Rattle.path.proofs.fields.first_kind.Goals as goal

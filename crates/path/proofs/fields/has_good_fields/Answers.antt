@@ -1,7 +1,6 @@
 -- `path::fields::has_good_fields` meets its contract: by what was found of each field.
 -- Assumes nothing.
 use mathlib.Core.Path.{◌∙◌}
-use borrow.Author.Rules.{rules}
 use Rattle.meaning.specs.Rows.{good_fields}
 use Rattle.path.proofs.fields.has_good_fields.Goals as goal
 

@@ -2,7 +2,6 @@
 -- Assumes nothing.
 use mathlib.Core.Path.{◌∙◌}
 use native.Mathlib.Omega.{arith}
-use borrow.Author.Rules.{rules}
 use Rattle.meaning.specs.Rows.{good_field}
 use Rattle.path.specs.Kinds.{field_of}
 use Rattle.path.proofs.FieldKinds.{link_kind}

@@ -1,7 +1,6 @@
 -- `path::fields::is_good_link` meets its contract: by the tests that were taken.
 -- Assumes nothing.
 use mathlib.Core.Path.{◌∙◌}
-use borrow.Author.Rules.{rules}
 use borrow.Author.Tests.{eq-eqb, ne_eqb, le-leb, lt-leb}
 use Rattle.meaning.specs.Rows.{good_link}
 use Rattle.path.proofs.FieldKinds.{misses_from}

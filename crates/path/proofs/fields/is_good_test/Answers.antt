@@ -1,6 +1,5 @@
 -- `path::fields::is_good_test` meets its contract: by what its tests gave.
 -- Assumes nothing.
-use borrow.Author.Rules.{rules}
 use Rattle.meaning.specs.Rows.{good_test}
 use Rattle.path.proofs.fields.is_good_test.Goals as goal
 

@@ -1,6 +1,5 @@
 -- `path::fields::is_number` meets its contract: the ops that are numbers, computed over the table of ops.
 -- Assumes nothing.
-use borrow.Author.Rules.{rules}
 use Rattle.meaning.proofs.Decoding.{number_ops}
 use Rattle.path.proofs.fields.is_number.Goals as goal
 

@@ -1,6 +1,5 @@
 -- `path::fields::is_path` meets its contract: an op is told by its number.
 -- Assumes nothing.
-use borrow.Author.Rules.{rules}
 use Rattle.meaning.proofs.Decoding.{path_ops}
 use Rattle.path.proofs.fields.is_path.Goals as goal
 

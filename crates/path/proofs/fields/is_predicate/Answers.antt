@@ -1,6 +1,5 @@
 -- `path::fields::is_predicate` meets its contract: an op is told by its number.
 -- Assumes nothing.
-use borrow.Author.Rules.{rules}
 use Rattle.meaning.proofs.Decoding.{predicate_op}
 use Rattle.path.proofs.fields.is_predicate.Goals as goal
 

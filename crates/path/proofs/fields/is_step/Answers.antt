@@ -1,6 +1,5 @@
 -- `path::fields::is_step` meets its contract: an op is told by its number.
 -- Assumes nothing.
-use borrow.Author.Rules.{rules}
 use Rattle.meaning.proofs.Decoding.{step_op}
 use Rattle.path.proofs.fields.is_step.Goals as goal
 

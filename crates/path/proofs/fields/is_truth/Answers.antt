@@ -1,6 +1,5 @@
 -- `path::fields::is_truth` meets its contract: the ops that are truths, computed over the table of ops.
 -- Assumes nothing.
-use borrow.Author.Rules.{rules}
 use Rattle.meaning.proofs.Decoding.{truth_ops}
 use Rattle.path.proofs.fields.is_truth.Goals as goal
 

@@ -1,7 +1,6 @@
 -- `path::fields::takes_op` meets its contract: by the kind that was matched; from 10 on a kind is a predicate or none.
 -- Assumes nothing.
 use native.Mathlib.Omega.{arith}
-use borrow.Author.Rules.{rules}
 use Rattle.meaning.specs.Rows.{takes}
 use Rattle.path.specs.Kinds.{field_of}
 use Rattle.path.proofs.FieldKinds.{kind_past}
