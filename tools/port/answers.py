@@ -110,10 +110,10 @@ class Function:
     def body(self, text, variable="c"):
         aliases = {variable}
         # aliases of places: `let lo = c.before.before in`
-        for m in re.finditer(r"let ([\w₀-₉']+) = (\w+)((?:\.before)+) in\s*", text):
+        for m in re.finditer(r"let ([\w₀-₉'-]+) = ([\w₀-₉'-]+)((?:\.before)*) in\s*", text):
             if m.group(2) in aliases:
                 aliases.add(m.group(1))
-        text = re.sub(r"let ([\w₀-₉']+) = (\w+)((?:\.before)+) in\s*", lambda m: "" if m.group(1) in aliases else m.group(0), text)
+        text = re.sub(r"let ([\w₀-₉'-]+) = ([\w₀-₉'-]+)((?:\.before)*) in\s*", lambda m: "" if m.group(1) in aliases else m.group(0), text)
 
         def one(m):
             head = m.group(1)
@@ -122,7 +122,7 @@ class Function:
             parts = m.group(2)[1:].split(".")
             return ".".join(["c"] + self.path(parts))
 
-        text = re.sub(r"(?<![\w.'-])([\w₀-₉']+)((?:\.[^\s(){}.,;\[\]]+)+)", one, text)
+        text = re.sub(r"(?<![\w.'-])([\w₀-₉'-]+)((?:\.[^\s(){}.,;\[\]]+)+)", one, text)
         # a test of `!x` says today that x is true or false
         text = re.sub(r"\(not-(?:true|false) _ (c\.(?:if|loop)-not-[\w-]+\.(?:true|false))\)", r"\1", text)
         text = re.sub(r"not-(?:true|false) _ (c\.(?:if|loop)-not-[\w-]+\.(?:true|false))", r"\1", text)
