@@ -2,8 +2,6 @@
 -- it was.
 -- Assumes nothing.
 use Rattle.meaning.proofs.Outcome.{edition_refused, table_refused, path_refused}
-use borrow.Author.Tests.{not-true, not-false}
-use borrow.Author.Rules.{rules}
 use Rattle.select.proofs.evaluate.Goals as goal
 
 pub returns-then-not-is_edition : goal.returns-then-not-is_edition

@@ -8,7 +8,6 @@ use Rattle.meaning.specs.Table.{most_rows}
 use Rattle.meaning.proofs.Marks.{no_marks}
 use Rattle.reach.proofs.Accepted.{accepted_rooted}
 use Rattle.meaning.proofs.Outcome.{table_fits, path_fits, start_refused, all_handed}
-use borrow.Author.Rules.{rules}
 use Rattle.select.proofs.evaluate_accepted.Goals as goal
 
 pub returns-then-row_count-start : goal.returns-then-row_count-start

@@ -1,7 +1,6 @@
 -- `select::is_edition` meets its contract: the two numbers, by what the tests gave.
 -- Assumes nothing.
 use Rattle.meaning.specs.Answers.{is_edition}
-use borrow.Author.Rules.{rules}
 use Rattle.select.proofs.is_edition.Goals as goal
 
 pub returns : goal.returns

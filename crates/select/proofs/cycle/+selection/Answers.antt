@@ -1,22 +1,18 @@
 -- The members of the cycle meet their contracts.
 -- Assumes nothing.
-use Prim.Native.Nat.{ℕ, ◌+◌, ◌-◌, ◌≤◌, ◌<◌}
+use Prim.Native.Nat.{ℕ, ◌+◌, ◌≤◌, ◌<◌}
 use Rattle.cover.proofs.Links.{lower}
-use Rattle.meaning.proofs.Evaluation.{kept_by, kept_by_lem, filtered_none, filtered_row, select_none, select_row, step_to, value_none, value_over_path, value_leaf, value_one, value_two, value_decided, walk_none, walk_row}
-use Rattle.meaning.proofs.Filters.{Kept, kept_start, kept_skip, kept_more, kept_done}
-use Rattle.meaning.proofs.Free.{true_at}
-use Rattle.meaning.proofs.Marks.{no_marks, Reached, reached_start, reached_skip, reached_more, reached_done}
+use Rattle.meaning.proofs.Evaluation.{kept_by_lem, filtered_none, filtered_row, select_none, select_row, value_none, value_over_path, value_leaf, value_one, value_two, value_decided, walk_none, walk_row}
+use Rattle.meaning.proofs.Filters.{kept_start, kept_skip, kept_more, kept_done}
+use Rattle.meaning.proofs.Marks.{no_marks, reached_start, reached_skip, reached_more, reached_done}
 use Rattle.meaning.specs.Table.{most_rows, rows}
-use Rattle.meaning.specs.Tree.{tree}
 use Rattle.select.proofs.Sets.{absolute_decided, relative_decided, all_decided, near_decided, led_by, led_none, led_row, narrowed_none, narrowed_by, settled_low, not_decided, raised_low, pair_decided, strode, thinned_none, thinned_row, put_low}
 use Rattle.sieve.proofs.Sieves.{sieved_bounded, sieved_start, sieved_skip, sieved_write, sieved_done}
-use Rattle.sieve.specs.Sieve.{SievedTo}
 use borrow.Author.Rules.{rules}
 use lib.ListN.{get_or-replicate, length, get_or, replicate, length-set}
 use lib.Seq.{length-take-le}
 use mathlib.Core.Bool.{Bool, true, false, not}
 use mathlib.Core.List.{List}
-use mathlib.Core.Logic.{inl, inr, ⊎_elim}
 use mathlib.Core.Path.{sym, ◌∙◌, ◌≡◌, ap, refl}
 use native.Mathlib.Numerals.{add-one-le}
 use native.Mathlib.Omega.{arith}
@@ -245,13 +241,12 @@ keep-loop-i-preserved t c =
     ]
 
 pub keep-returns : goal.keep-returns
-keep-returns t c =
-    (
-      filtered_row _ _ _ _ _ c.if-link-eq0.false _ _ _ _ _ _ c.first_link-before.ensures.0 c.second_link-test.ensures.0 c.keep-k.ensures.0
-          (length-take-le _ _ (omega (arith, c.keep-k.auto, c.keep-k.ensures.1, c.requires)))
-          (kept_done _ _ _ _ _ _ c.loop-i.invariant.3 (omega arith)),
-      omega arith,
-    )
+keep-returns t c = (
+  filtered_row _ _ _ _ _ c.if-link-eq0.false _ _ _ _ _ _ c.first_link-before.ensures.0 c.second_link-test.ensures.0 c.keep-k.ensures.0
+      (length-take-le _ _ (omega (arith, c.keep-k.auto, c.keep-k.ensures.1, c.requires)))
+      (kept_done _ _ _ _ _ _ c.loop-i.invariant.3 (omega arith)),
+  omega arith,
+)
 
 -- `narrow`: the marked rows are active, the chain thins them, and what is active still stays marked.
 

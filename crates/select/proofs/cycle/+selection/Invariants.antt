@@ -1,26 +1,16 @@
 -- The cycle's measures and the invariants of its loops. The measure is the link, four times, plus one for a member that calls another at its
 -- own link, two for one that calls such a one (a step, an existence), and three for a truth, which may call that.
 -- Assumes nothing.
-use Prim.Native.Nat.{ℕ, ◌+◌, ◌*◌, ◌<◌, ◌-◌, ◌≤◌}
-use Rattle.cover.proofs.Links.{lower}
-use Rattle.meaning.proofs.Evaluation.{kept_by, kept_by_lem, filtered_none, filtered_row, select_none, select_row, step_to, value_none, value_over_path, value_leaf, value_one, value_two, value_decided, walk_none, walk_row}
-use Rattle.meaning.proofs.Filters.{Kept, kept_start, kept_skip, kept_more, kept_done}
+use Prim.Native.Nat.{◌+◌, ◌*◌, ◌-◌, ◌≤◌}
+use Rattle.meaning.proofs.Evaluation.{kept_by, step_to}
+use Rattle.meaning.proofs.Filters.{Kept}
 use Rattle.meaning.proofs.Free.{true_at}
-use Rattle.meaning.proofs.Marks.{no_marks, Reached, reached_start, reached_skip, reached_more, reached_done}
+use Rattle.meaning.proofs.Marks.{Reached}
 use Rattle.meaning.specs.Table.{most_rows, rows}
 use Rattle.meaning.specs.Tree.{tree}
-use Rattle.select.proofs.Sets.{absolute_decided, relative_decided, all_decided, near_decided, led_by, led_none, led_row, narrowed_none, narrowed_by, settled_low, not_decided, raised_low, pair_decided, strode, thinned_none, thinned_row, put_low}
-use Rattle.sieve.proofs.Sieves.{sieved_bounded, sieved_start, sieved_skip, sieved_write, sieved_done}
 use Rattle.sieve.specs.Sieve.{SievedTo}
-use borrow.Author.Rules.{rules}
-use lib.ListN.{get_or-replicate, length, get_or, replicate, length-set}
-use lib.Seq.{length-take-le}
-use mathlib.Core.Bool.{Bool, true, false, not}
-use mathlib.Core.List.{List}
-use mathlib.Core.Logic.{inl, inr, ⊎_elim}
-use mathlib.Core.Path.{sym, ◌∙◌, ◌≡◌, ap, refl}
-use native.Mathlib.Numerals.{add-one-le}
-use native.Mathlib.Omega.{arith}
+use lib.ListN.{length}
+use mathlib.Core.Path.{◌≡◌}
 use Rattle.select.proofs.cycle.+selection.Given as goal
 
 abbrev pub decreases-back : goal.decreases-back
