@@ -12,6 +12,7 @@ ghost use Rattle.meaning.proofs.Applied.{takes_first, takes_second, decides};
 
 use basics::{at_most, below, both, either, same};
 use meaning::{Context, Value};
+use remainder::remainder;
 
 // A whole number as a double, exactly: no sign, and n over 1.
 pub fn float_of(n: usize) -> f64
@@ -113,7 +114,7 @@ pub fn apply(
         5 => Value::Number(x - y),
         6 => Value::Number(x * y),
         7 => Value::Number(x / y),
-        8 => Value::Number(x % y),
+        8 => Value::Number(remainder(x, y)),
         9 => Value::Number(-x),
         10 => Value::Truth(x == y),
         11 => Value::Truth(x != y),

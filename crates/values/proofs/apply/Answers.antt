@@ -35,7 +35,7 @@ returns-in-7 c = rw (c.in-7.is, c.number_of-x.ensures, c.number_of-y.ensures)
 
 pub returns-in-8 : goal.returns-in-8
 unfolding applied op_of
-returns-in-8 c = rw (c.in-8.is, c.number_of-x.ensures, c.number_of-y.ensures)
+returns-in-8 c = rw (c.in-8.is, c.remainder.ensures, c.number_of-x.ensures, c.number_of-y.ensures)
 
 pub returns-in-9 : goal.returns-in-9
 unfolding applied op_of
