@@ -5,8 +5,8 @@
  * inside one subtree, and a reader and a writer of table files. What a table, a
  * table file, a path and an answer are is said below as far as a caller needs
  * it; documents 01 and 02 of the project are the definition.
- * Link with libcapi.a (made by `rt lib` in crates/capi) on x86-64 Linux, and
- * with -lm.
+ * Link with libcapi.a (made by `rt lib` in crates/capi) on x86-64 Linux. It
+ * calls memcpy and memset of the C library and nothing else.
  *
  * A node table is 4 numbers a row, 1 to 8,192 rows, in document order:
  *   kind    0 root (row 0 only), 1 element, 2 text, 3 comment,
