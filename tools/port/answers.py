@@ -90,7 +90,7 @@ class Function:
         self.starts = set()
 
     def need(self, old):
-        for k in (old, re.sub(r"^slice.bounds.", "part_", norm(old)), re.sub(r"^nonzero_", "", norm(old)), re.sub(r"^shape_of_", "same_length_", norm(old))):
+        for k in (old, re.sub(r"^array_read", "element_copy_out", norm(old)), re.sub(r"^slice.bounds.", "part_", norm(old)), re.sub(r"^nonzero_", "", norm(old)), re.sub(r"^shape_of_", "same_length_", norm(old))):
             if norm(k) in self.needs:
                 return self.needs[norm(k)]
         for b in self.needs.values():
@@ -225,6 +225,14 @@ def with_lets(clause, lets):
     return lhs + "=\n" + head + "    " + plain(rhs).strip(), unfolds
 
 
+def one_line(unfolding):
+    """The lines as one, each name once."""
+    names = []
+    for line in unfolding:
+        names += [n for n in line.split()[1:] if n not in names]
+    return ["unfolding " + " ".join(names)] if names else []
+
+
 def turn(crate, folder, names, dotted):
     path = f"crates/{crate}/proofs/{folder}/Proof.antt"
     text = open(path, encoding="utf-8").read()
@@ -333,7 +341,7 @@ def turn(crate, folder, names, dotted):
         for v in re.findall(r"\((\w+) : goal\.", whole):
             whole = f.body(whole, v)
         helpers.append(whole)
-    answers = [(lead, sig, unfolding + [u for u in us if u not in unfolding], clause) for lead, sig, unfolding, (clause, us) in
+    answers = [(lead, sig, one_line(unfolding + us), clause) for lead, sig, unfolding, (clause, us) in
                ((lead, sig, unfolding, with_lets(clause, lets)) for lead, sig, unfolding, clause in answers)]
     module = "Rattle." + crate + ".proofs." + dotted
     out_uses = [u for u in uses]
