@@ -11,9 +11,7 @@ use Rattle.decimal.specs.Decimal.{ascii}
 use Rattle.modes.proofs.Table.{every}
 use Rattle.levels.specs.Levels.{tightnesses, tightness_of}
 use Rattle.levels.proofs.Digits.{is_digit_of, digit_of}
-use borrow.Author.Rules.{rules}
-use Rattle.levels.proofs.tightness_of.Statement.{statement}
-use Rattle.levels.proofs.tightness_of.Tie as tie
+use Rattle.levels.proofs.tightness_of.Goals as goal
 
 bytes : List ℕ
 bytes = ascii "5533444462166"
@@ -29,26 +27,20 @@ entry : (i : ℕ) → i < 13 → (48 ≤ get_or bytes i 0) × (get_or bytes i 0 
 unfolding bytes
 entry i h = digit_of nth bytes every-tightness i h
 
-returns : tie.Need-returns
+pub returns-then-k-lt20 : goal.returns-then-k-lt20
 unfolding tightness_of
-returns c = rw (lt-ltb _ _ c.if1.true)
+returns-then-k-lt20 c = rw (lt-ltb _ _ c.if-k-lt20.true)
 
-array-read-result : tie.Need-array-read-result
-array-read-result c = search rules
-
-sub-result : tie.Need-overflow-sub-result
+pub overflow_sub-result-2 : goal.overflow_sub-result-2
 unfolding bytes
-sub-result c = (entry (c.before.args.k - 20) (omega arith)).0
+overflow_sub-result-2 c = (entry (c.args.k - 20) (omega arith)).0
 
-cast-result : tie.Need-overflow-cast-result
+pub overflow_cast-result : goal.overflow_cast-result
 unfolding bytes
-cast-result c =
-    let most : get_or bytes (c.before.args.k - 20) 0 ≤ 57 = (entry (c.before.args.k - 20) (omega arith)).1 in
+overflow_cast-result c =
+    let most : get_or bytes (c.args.k - 20) 0 ≤ 57 = (entry (c.args.k - 20) (omega arith)).1 in
     record { fits = omega (arith, most) }
 
-returns-2 : tie.Need-returns-2
+pub returns : goal.returns
 unfolding bytes nth tightness_of
-returns-2 c = (entry (c.before.args.k - 20) (omega arith)).2 ∙ rw (le-ltb _ _ c.if1.false)
-
-pub tightness-of-spec : {M : Type 1} → statement M
-tightness-of-spec = tie.close (tie.spec returns array-read-result sub-result cast-result returns-2)
+returns c = (entry (c.args.k - 20) (omega arith)).2 ∙ rw (le-ltb _ _ c.if-k-lt20.false)

@@ -11,8 +11,7 @@ use Rattle.modes.proofs.Table.{every}
 use Rattle.levels.specs.Levels.{group_of}
 use Rattle.levels.proofs.Digits.{is_digit_of, digit_of}
 use borrow.Author.Rules.{rules}
-use Rattle.levels.proofs.group_of.Statement.{statement}
-use Rattle.levels.proofs.group_of.Tie as tie
+use Rattle.levels.proofs.group_of.Goals as goal
 
 bytes : List ℕ
 bytes = ascii "7080111011110162233455555555555550"
@@ -25,22 +24,16 @@ entry : (k : ℕ) → k < 34 → (48 ≤ get_or bytes k 0) × (get_or bytes k 0 
 unfolding bytes
 entry k h = digit_of group_of bytes every-group k h
 
-array-read-result : tie.Need-array-read-result
-array-read-result c = search rules
-
-sub-result : tie.Need-overflow-sub-result
+pub overflow_sub-result : goal.overflow_sub-result
 unfolding bytes
-sub-result c = (entry c.args.k (search rules)).0
+overflow_sub-result c = (entry c.args.k (search rules)).0
 
-cast-result : tie.Need-overflow-cast-result
+pub overflow_cast-result : goal.overflow_cast-result
 unfolding bytes
-cast-result c =
+overflow_cast-result c =
     let most : get_or bytes c.args.k 0 ≤ 57 = (entry c.args.k (search rules)).1 in
     record { fits = omega (arith, most) }
 
-returns : tie.Need-returns
+pub returns : goal.returns
 unfolding bytes
 returns c = (entry c.args.k (search rules)).2
-
-pub group-of-spec : {M : Type 1} → statement M
-group-of-spec = tie.close (tie.spec array-read-result sub-result cast-result returns)
