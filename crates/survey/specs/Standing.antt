@@ -10,8 +10,8 @@ use Rattle.text.specs.Grammar.{unknown}
 use Rattle.text.specs.Tokens.{code, lexeme, operator_due, tokens, classes_of}
 use Rattle.text.specs.Machine.{operand, run, start, is_stuck}
 use Rattle.text.specs.Syntax.{read_all}
-use Rattle.text.specs.Limited.{Source, source, word_at, function_names, text_faults, least}
-use Rattle.text.specs.Reading.{Form, outside, inside, byte_of}
+use Rattle.text.specs.Limited.{Source, source, word_at, function_names}
+use Rattle.text.specs.Reading.{byte_of}
 use Rattle.text.specs.Forms.{form_of, found}
 use Rattle.text.specs.Survey.{fresh, end_faults, Survey, survey, survey_token, unread}
 use Rattle.text.proofs.Cutting.{Cut}
