@@ -87,6 +87,16 @@ class Function:
         for place, new in zip(names["places"], names["places_by_name"]):
             self.places[norm(place[0])] = new
         self.said = []
+        self.starts = set()
+
+    def need(self, old):
+        for k in (old, re.sub(r"^array_read", "element_copy_out", norm(old)), re.sub(r"^slice.bounds.", "part_", norm(old)), re.sub(r"^nonzero_", "", norm(old)), re.sub(r"^shape_of_", "same_length_", norm(old))):
+            if norm(k) in self.needs:
+                return self.needs[norm(k)]
+        for b in self.needs.values():
+            if norm(b) == norm(old):
+                return b
+        return None
 
     def path(self, tokens):
         """A path from `c`: steps behind `.before` by today's names."""
@@ -100,20 +110,31 @@ class Function:
                     return [self.arms[(key, tuple(parts[1:n]))]] + parts[n:]
             if key in self.steps:
                 parts[0] = self.steps[key]
+            elif parts[0] == "pre":
+                parts[0] = "requires"
             elif parts[0] not in ("args", "requires", "ranges", "type_inv", "auto", "lifetimes", "well_formed"):
                 self.said.append("step? " + parts[0])
-        out = []
-        for k, p in enumerate(parts):
-            out.append(p)
-        return out
+        today = {"inv": "invariant", "taken": "true", "left": "false"}
+        return [today.get(p, p) if k == 1 and re.match(r"if|loop", parts[0]) else p for k, p in enumerate(parts)]
 
     def body(self, text, variable="c"):
         aliases = {variable}
-        # aliases of places: `let lo = c.before.before in`
-        for m in re.finditer(r"let ([\w₀-₉'-]+) = ([\w₀-₉'-]+)((?:\.before)*) in\s*", text):
-            if m.group(2) in aliases:
+        W = r"[\w₀-₉'-]+"
+        starts = "|".join(sorted(map(re.escape, self.starts), key=len, reverse=True)) or "§"
+        edge = r"(?![\w.'₀-₉-])"
+        before = None
+        while before != text:
+            before = text
+            alts = "|".join(sorted(map(re.escape, aliases | {"c"}), key=len, reverse=True))
+            text = re.sub(r"\((?:" + starts + r") (" + alts + r")(?:\.before)*\)", r"\1", text)
+            text = re.sub(r"(?<![\w.'-])(?:" + starts + r") (" + alts + r")(?:\.before)*" + edge, r"\1", text)
+            text = re.sub(r"\((" + alts + r")(?:\.before)*\)", r"\1", text)
+            m = re.search(r"let (" + W + r") = (?:" + alts + r")(?:\.before)* in\s*", text)
+            if m:
                 aliases.add(m.group(1))
-        text = re.sub(r"let ([\w₀-₉'-]+) = ([\w₀-₉'-]+)((?:\.before)*) in\s*", lambda m: "" if m.group(1) in aliases else m.group(0), text)
+                text = text[:m.start()] + text[m.end():]
+        alts = "|".join(sorted(map(re.escape, aliases), key=len, reverse=True))
+        aliases.add("c")
 
         def one(m):
             head = m.group(1)
@@ -123,6 +144,7 @@ class Function:
             return ".".join(["c"] + self.path(parts))
 
         text = re.sub(r"(?<![\w.'-])([\w₀-₉'-]+)((?:\.[^\s(){}.,;\[\]]+)+)", one, text)
+        text = re.sub(r"(?<![\w.'λ-])(?:" + alts + r")(?![\w.'₀-₉-])", "c", text) if alts != "c" else text
         # a test of `!x` says today that x is true or false
         text = re.sub(r"\(not-(?:true|false) _ (c\.(?:if|loop)-not-[\w-]+\.(?:true|false))\)", r"\1", text)
         text = re.sub(r"not-(?:true|false) _ (c\.(?:if|loop)-not-[\w-]+\.(?:true|false))", r"\1", text)
@@ -132,7 +154,7 @@ class Function:
         def one(m):
             w = m.group(1)
             if w.startswith("Need-"):
-                return "goal." + self.needs.get(norm(w[5:]), w[5:])
+                return "goal." + (self.need(w[5:]) or w[5:])
             if norm(w) in self.places:
                 return "goal." + self.places[norm(w)]
             if w[:4] in ("Then", "Else"):
@@ -203,6 +225,14 @@ def with_lets(clause, lets):
     return lhs + "=\n" + head + "    " + plain(rhs).strip(), unfolds
 
 
+def one_line(unfolding):
+    """The lines as one, each name once."""
+    names = []
+    for line in unfolding:
+        names += [n for n in line.split()[1:] if n not in names]
+    return ["unfolding " + " ".join(names)] if names else []
+
+
 def turn(crate, folder, names, dotted):
     path = f"crates/{crate}/proofs/{folder}/Proof.antt"
     text = open(path, encoding="utf-8").read()
@@ -211,6 +241,12 @@ def turn(crate, folder, names, dotted):
     uses, invariants, answers, helpers, comments, lets = [], [], [], [], [], []
     order = []
     for b in blocks(text):
+        name, sig, line = head_of(b)
+        if name and re.match(r"\s*tie\.\S+.*→\s*tie\.\S+\s*[^→]*$", sig) and any(re.match(re.escape(name) + r" \w+ = \w+(\.before)*\s*$", l) for l in b):
+            f.starts.add(name)
+    for b in blocks(text):
+        if head_of(b)[0] in f.starts:
+            continue
         if b[0].startswith("use "):
             if ".Tie" in b[0] or "Statement" in b[0] or "{statement}" in b[0] or re.search(r"\.(Reads|Kinds|Lts-\w+) as |borrow\.Fn\.(Kinds|PlainCycle)", b[0]):
                 continue
@@ -262,7 +298,7 @@ def turn(crate, folder, names, dotted):
         m = re.match(r"\s*tie\.Need-(\S+)", sig) or re.match(r"\s*\(t : ℕ\) → [\w-]+-lts\.Need-(\S+)", sig)
         if m:
             old = m.group(1)
-            new = f.needs.get(norm(old))
+            new = f.need(old)
             clause = "\n".join(rest[1:])
             body = clause.split("=", 1)[1].strip() if "=" in clause else clause
             last = [l for l in rest[1:] if not l.startswith("unfolding")]
@@ -305,7 +341,7 @@ def turn(crate, folder, names, dotted):
         for v in re.findall(r"\((\w+) : goal\.", whole):
             whole = f.body(whole, v)
         helpers.append(whole)
-    answers = [(lead, sig, unfolding + [u for u in us if u not in unfolding], clause) for lead, sig, unfolding, (clause, us) in
+    answers = [(lead, sig, one_line(unfolding + us), clause) for lead, sig, unfolding, (clause, us) in
                ((lead, sig, unfolding, with_lets(clause, lets)) for lead, sig, unfolding, clause in answers)]
     module = "Rattle." + crate + ".proofs." + dotted
     out_uses = [u for u in uses]

@@ -1,10 +1,10 @@
 -- The pass over the tokens: behind the first k tokens the slices hold the machine's draft.
 -- Assumes nothing.
-use Prim.Native.Nat.{ℕ, zero, suc, ◌+◌, ◌-◌, ◌*◌, ◌<◌, ◌≤◌}
+use Prim.Native.Nat.{ℕ, zero, suc, ◌+◌, ◌*◌, ◌<◌, ◌≤◌}
 use native.Mathlib.Omega.{arith}
 use mathlib.Core.Path.{◌≡◌, refl, sym, ◌∙◌, ap, subst}
 use mathlib.Core.Bool.{Bool, false}
-use mathlib.Core.Logic.{◌⊎◌, inl, inr, ⊎_elim}
+use mathlib.Core.Logic.{inl, inr, ⊎_elim}
 use mathlib.Core.List.{List, [], ◌∷◌}
 use lib.ListN.{length, take, replicate, length-replicate}
 use lib.Seq.{take_all, length-take-le}
@@ -102,10 +102,10 @@ pub record Passing (text list rows ops opens : List ℕ) (values : List Float) (
   pub few : state.literals ≤ state.bench.hand.rows
   pub light : state.bench.hand.rows + state.bench.height ≤ 257
   pub known : state.mode < 14
-  pub row_room_lem : length rows ≡ row_room
-  pub op_room_lem : length ops ≡ op_room
-  pub open_room_lem : length opens ≡ open_room
-  pub value_room_lem : length values ≡ value_room
+  pub rows_room : length rows ≡ row_room
+  pub ops_room : length ops ≡ op_room
+  pub opens_room : length opens ≡ open_room
+  pub values_room : length values ≡ value_room
 
 nothing_drafted :
     (text list rows : List ℕ) (values : List Float) → draft_of nothing_read rows (replicate op_room 0) (replicate open_room 0) values ≡ draft_at
@@ -131,10 +131,10 @@ passing_start text list rows ops opens values s next z o p l v f =
       few = omega arith;
       light = omega arith;
       known = omega arith;
-      row_room_lem = l;
-      op_room_lem = length-replicate {A = ℕ} op_room 0;
-      open_room_lem = length-replicate {A = ℕ} open_room 0;
-      value_room_lem = v;
+      rows_room = l;
+      ops_room = length-replicate {A = ℕ} op_room 0;
+      opens_room = length-replicate {A = ℕ} open_room 0;
+      values_room = v;
     })
 
 module _ {text list rows ops opens : List ℕ} {values : List Float} {state : State} {next : Next}
@@ -152,7 +152,7 @@ module _ {text list rows ops opens : List ℕ} {values : List Float} {state : St
       next_place = cut_place p.cut stands list
 
       pub next_roomy : Roomy 514 state.bench rows ops opens
-      next_roomy = record { light = omega (arith, p.light); row_room_lem = p.row_room_lem; op_room_lem = p.op_room_lem; open_room_lem = p.open_room_lem }
+      next_roomy = record { light = omega (arith, p.light); rows_room = p.rows_room; ops_room = p.ops_room; opens_room = p.opens_room }
 
       pub next_countable : length text ≤ 18446744073709551615 → Countable state.bench.height opens
       unfolding draft_at
@@ -198,10 +198,10 @@ module _ {text list rows ops opens : List ℕ} {values : List Float} {state : St
               few = omega (arith, w.few, p.few);
               light = l;
               known = m;
-              row_room_lem = a;
-              op_room_lem = b;
-              open_room_lem = c;
-              value_room_lem = d;
+              rows_room = a;
+              ops_room = b;
+              opens_room = c;
+              values_room = d;
             }
 
     -- nothing is left

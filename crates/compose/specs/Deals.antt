@@ -10,9 +10,9 @@ use Rattle.compose.specs.Standing.{mode_of, row_room, op_room, open_room, load}
 -- the load is at most k, and the slices have their lengths
 pub record Roomy (k : ℕ) (b : Bench) (rows ops opens : List ℕ) : Type 0 where
   pub light : load b ≤ k
-  pub row_room_lem : length rows ≡ row_room
-  pub op_room_lem : length ops ≡ op_room
-  pub open_room_lem : length opens ≡ open_room
+  pub rows_room : length rows ≡ row_room
+  pub ops_room : length ops ≡ op_room
+  pub opens_room : length opens ≡ open_room
 
 -- `(`, `)` and `]`
 unfoldable pub opened : ℕ → Desk → Desk

@@ -20,7 +20,7 @@ use Rattle.text.specs.Grammar.{Token, opening, closing, '[', ']', dot, dots, at,
 use Rattle.text.specs.Tokens.{code}
 use Rattle.text.specs.Machine.{Mode, operand, argument, union, root, step, axis, test, type, empty, instruction, target, call, whole, part, number, has, Act, refuse, Row, on, rows, pick}
 use Rattle.text.specs.Limited.{Source, place, word_of, is_star, has_prefix, holds_axis, most_digits, digits, number_at, fault, name_faults, digit_faults}
-use Rattle.text.specs.Survey.{urgency_lem, worst, noted, fresh, path_begun, other_begun, joined_on, operator_faults, sign_faults, Survey, survey, after, mode_after, begins, step_read, operand_read, slash_read, bracket_read, opening_read, closing_read, comma_read, bar_read, operator_read, minus_read, string_read, name_read, left, survey_token}
+use Rattle.text.specs.Survey.{urgency, worst, noted, fresh, path_begun, other_begun, joined_on, operator_faults, sign_faults, Survey, survey, after, mode_after, step_read, operand_read, slash_read, bracket_read, opening_read, closing_read, comma_read, bar_read, operator_read, minus_read, string_read, name_read, left, survey_token}
 use Rattle.modes.specs.Acts.{opened, act_number}
 use Rattle.levels.specs.Levels.{is_due, takes_sign, goes_on, group_of, tightness_of, stepped, slashed, grouped, bracketed, quoted, level_in, sort_in, sooner, lowered, with_own, own_of, name_in, fault_in}
 use Rattle.levels.proofs.Modes.{tested, is_go, is_enter, is_leave, is_next}
@@ -54,7 +54,7 @@ module _ (s : Source) (i : ℕ) (here : place s i ≤ length s.text) {f : Fault}
   one_tells : (n : ℕ) → 24 ≤ n → n ≤ 26 → Tells s (sooner n (place s i) f) (max (worst s (fault s n i)) x)
   unfolding worst
   one_tells n least most =
-      subst (λ (y : ℕ). Tells s (sooner n (place s i) f) (max y x)) (sym (max-zero (urgency_lem s n (place s i))))
+      subst (λ (y : ℕ). Tells s (sooner n (place s i) f) (max y x)) (sym (max-zero (urgency s n (place s i))))
       (sooner_tells s (record { least = least; most = most; within = here }) told)
 
   name_by : (a b c : Bool)
@@ -127,11 +127,11 @@ module _ (s : Source) (i : ℕ) (l : Level) (ls : List Level) (v : Sort) (n : �
   arity_of q = cond (eqb q 1) 0 1
 
   module _ (x : ℕ) where
-    -- the survey behind the token is y with an urgency_lem, and the fault by numbers tells it
+    -- the survey behind the token is y with an urgency, and the fault by numbers tells it
     pub record Behind (k q : ℕ) (y : ℕ → Survey) (z : Survey) : Type 0 where
-      pub urgency_lem : ℕ
-      pub equation : z ≡ y urgency_lem
-      pub tells : (f : Fault) → Tells s f x → Known s i l n q → Tells s (fault_of k q f) urgency_lem
+      pub urgency : ℕ
+      pub equation : z ≡ y urgency
+      pub tells : (f : Fault) → Tells s f x → Known s i l n q → Tells s (fault_of k q f) urgency
 
     -- a token leads to the mode m'
     abbrev pub Goes : Token → Mode → Mode → ℕ → ℕ → Type 0
@@ -143,7 +143,7 @@ module _ (s : Source) (i : ℕ) (l : Level) (ls : List Level) (v : Sort) (n : �
 
     gone : {k q : ℕ} {y : ℕ → Survey} {z : Survey} (u : ℕ)
         → z ≡ y u → ((f : Fault) → Tells s f x → Known s i l n q → Tells s (fault_of k q f) u) → Behind k q y z
-    gone u e h = record { urgency_lem = u; equation = e; tells = h }
+    gone u e h = record { urgency = u; equation = e; tells = h }
 
     none_told : {q : ℕ} (f : Fault) → Tells s f x → Known s i l n q → Tells s f (max (worst s []) x)
     none_told f told known = none_tells s i known.here told
@@ -166,7 +166,7 @@ module _ (s : Source) (i : ℕ) (l : Level) (ls : List Level) (v : Sort) (n : �
         ≡ survey (mode_after m t) (slashed (number m) l) ls (cond (is_due (number m)) Nodes v) n
         (noted s (not (is_due (number m)) && (goes_on (number m) && not l.inpath)) l.m x)
     unfolding slash_read slashed
-    slash_goes t m = rw ((tested m).begins, (tested m).goes_on) (slash_by (is_due (number m)) (goes_on (number m) && not l.inpath) (mode_after m t))
+    slash_goes t m = rw ((tested m).begins, (tested m).continues) (slash_by (is_due (number m)) (goes_on (number m) && not l.inpath) (mode_after m t))
 
     choose : (b : Bool) {m' : Mode} {k : Level} (y z : ℕ)
         → cond b (survey m' k ls v n y) (survey m' k ls v n z) ≡ survey m' k ls v n (cond b y z)

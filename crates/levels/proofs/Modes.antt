@@ -67,27 +67,27 @@ mode_number part = refl
 pub record Tested (m : Mode) : Type 0 where
   pub begins : has beginning m ≡ is_due (number m)
   pub signs : has signing m ≡ takes_sign (number m)
-  pub goes_on_lem : has continuing m ≡ goes_on (number m)
+  pub continues : has continuing m ≡ goes_on (number m)
   pub targets : has (target ∷ []) m ≡ eqb (number m) 10
   pub calls : has (call ∷ []) m ≡ eqb (number m) 11
   pub argues : has (argument ∷ []) m ≡ eqb (number m) 1
 
 pub tested : (m : Mode) → Tested m
 unfolding has number
-tested operand = record { begins = refl; signs = refl; goes_on_lem = refl; targets = refl; calls = refl; argues = refl }
-tested argument = record { begins = refl; signs = refl; goes_on_lem = refl; targets = refl; calls = refl; argues = refl }
-tested union = record { begins = refl; signs = refl; goes_on_lem = refl; targets = refl; calls = refl; argues = refl }
-tested root = record { begins = refl; signs = refl; goes_on_lem = refl; targets = refl; calls = refl; argues = refl }
-tested step = record { begins = refl; signs = refl; goes_on_lem = refl; targets = refl; calls = refl; argues = refl }
-tested axis = record { begins = refl; signs = refl; goes_on_lem = refl; targets = refl; calls = refl; argues = refl }
-tested test = record { begins = refl; signs = refl; goes_on_lem = refl; targets = refl; calls = refl; argues = refl }
-tested type = record { begins = refl; signs = refl; goes_on_lem = refl; targets = refl; calls = refl; argues = refl }
-tested empty = record { begins = refl; signs = refl; goes_on_lem = refl; targets = refl; calls = refl; argues = refl }
-tested instruction = record { begins = refl; signs = refl; goes_on_lem = refl; targets = refl; calls = refl; argues = refl }
-tested target = record { begins = refl; signs = refl; goes_on_lem = refl; targets = refl; calls = refl; argues = refl }
-tested call = record { begins = refl; signs = refl; goes_on_lem = refl; targets = refl; calls = refl; argues = refl }
-tested whole = record { begins = refl; signs = refl; goes_on_lem = refl; targets = refl; calls = refl; argues = refl }
-tested part = record { begins = refl; signs = refl; goes_on_lem = refl; targets = refl; calls = refl; argues = refl }
+tested operand = record { begins = refl; signs = refl; continues = refl; targets = refl; calls = refl; argues = refl }
+tested argument = record { begins = refl; signs = refl; continues = refl; targets = refl; calls = refl; argues = refl }
+tested union = record { begins = refl; signs = refl; continues = refl; targets = refl; calls = refl; argues = refl }
+tested root = record { begins = refl; signs = refl; continues = refl; targets = refl; calls = refl; argues = refl }
+tested step = record { begins = refl; signs = refl; continues = refl; targets = refl; calls = refl; argues = refl }
+tested axis = record { begins = refl; signs = refl; continues = refl; targets = refl; calls = refl; argues = refl }
+tested test = record { begins = refl; signs = refl; continues = refl; targets = refl; calls = refl; argues = refl }
+tested type = record { begins = refl; signs = refl; continues = refl; targets = refl; calls = refl; argues = refl }
+tested empty = record { begins = refl; signs = refl; continues = refl; targets = refl; calls = refl; argues = refl }
+tested instruction = record { begins = refl; signs = refl; continues = refl; targets = refl; calls = refl; argues = refl }
+tested target = record { begins = refl; signs = refl; continues = refl; targets = refl; calls = refl; argues = refl }
+tested call = record { begins = refl; signs = refl; continues = refl; targets = refl; calls = refl; argues = refl }
+tested whole = record { begins = refl; signs = refl; continues = refl; targets = refl; calls = refl; argues = refl }
+tested part = record { begins = refl; signs = refl; continues = refl; targets = refl; calls = refl; argues = refl }
 
 -- ---- acts
 

@@ -1,21 +1,18 @@
 -- The answer of the reader from what its parts find: a bad list of names, what is wrong in the text, and what is composed of it.
 -- Assumes nothing.
-use Prim.Native.Nat.{ℕ, ◌*◌, ◌+◌, ◌≤◌, ◌<◌}
+use Prim.Native.Nat.{ℕ, ◌<◌}
 use mathlib.Core.Path.{◌≡◌, refl, sym, ◌∙◌, ap}
-use mathlib.Core.Bool.{Bool, true, false, cond}
+use mathlib.Core.Bool.{Bool, true, false}
 use mathlib.Core.List.{List, [], ◌∷◌}
 use native.Mathlib.Omega.{arith}
-use lib.Dec.{T, eqb, ltb}
 use borrow.Author.Tests.{lt-ltb}
 use lib.ListN.{length}
-use lib.Ieee.{Float}
-use Rattle.meaning.specs.Answers.{answer, check}
+use Rattle.meaning.specs.Answers.{answer}
 use Rattle.meaning.specs.declared.Answer.{Answer}
-use Rattle.meaning.specs.Turning.{weight, written}
+use Rattle.meaning.specs.Turning.{weight}
 use Rattle.meaning.specs.Tree.{Tree, depth}
 use Rattle.names.specs.Names.{names_of, bad_names, bad_line_number}
 use Rattle.text.specs.declared.Fault.{Fault}
-use Rattle.text.specs.Grammar.{Sentence}
 use Rattle.text.specs.Tokens.{classes_of}
 use Rattle.text.specs.Machine.{start, accepts, readable}
 use Rattle.text.specs.Growing.{syntax_of}

@@ -3,16 +3,16 @@
 use Prim.Native.Nat.{ℕ, ◌+◌, ◌*◌, ◌≤◌, ◌<◌}
 use mathlib.Core.Path.{◌≡◌, refl, sym, ◌∙◌, ap, subst}
 use mathlib.Core.Bool.{Bool, true, false, cond, true≢false}
-use mathlib.Core.Logic.{◌⊎◌, ⊎_elim}
-use mathlib.Core.List.{List, [], ◌∷◌, ◌++◌}
+use mathlib.Core.Logic.{⊎_elim}
+use mathlib.Core.List.{List, ◌++◌}
 use native.Mathlib.Omega.{arith}
-use lib.Dec.{T, eqb, ltb}
+use lib.Dec.{ltb}
 use lib.ListN.{length, take, drop, take-append-drop}
 use lib.Seq.{length-take-le}
 use lib.Ieee.{Float}
-use borrow.Author.Tests.{lt-ltb, le-ltb, eq-eqb, ne_eqb}
+use borrow.Author.Tests.{lt-ltb, eq-eqb, ne_eqb}
 use Rattle.meaning.proofs.Bools.{lt_or_ge}
-use Rattle.meaning.specs.Answers.{answer, check}
+use Rattle.meaning.specs.Answers.{answer}
 use Rattle.meaning.specs.declared.Answer.{Answer}
 use Rattle.meaning.specs.Rows.{most_path_rows, most_literals}
 use Rattle.meaning.specs.Tree.{Tree, depth, most_depth}
@@ -20,12 +20,11 @@ use Rattle.meaning.specs.Turning.{weight, written}
 use Rattle.names.specs.Names.{names_of, bad_names, bad_line_number}
 use Rattle.text.specs.declared.Fault.{Fault}
 use Rattle.text.specs.Grammar.{Token, Sentence}
-use Rattle.text.specs.Tokens.{tokens, classes_of}
-use Rattle.text.specs.Machine.{accepts}
+use Rattle.text.specs.Tokens.{classes_of}
 use Rattle.text.specs.Growing.{syntax_of}
 use Rattle.text.specs.Syntax.{read_all}
 use Rattle.text.specs.Limited.{source, text_faults}
-use Rattle.text.specs.Reading.{inside, tree_of, literals_of, reading, rows_of, literals, literal_count, output_of, ReadsPath}
+use Rattle.text.specs.Reading.{tree_of, literals_of, reading, rows_of, literals, literal_count, output_of, ReadsPath}
 use Rattle.text.specs.Composing.{Draft, draft, desk, pen, compose_token, unwritten, composed, composed_of}
 use Rattle.text.specs.Composing.{Composed as C}
 use Rattle.text.specs.Forms.{form_of, found}

@@ -15,7 +15,7 @@ use Rattle.text.specs.declared.Sort.TheVariants.{Unheld}
 use Rattle.text.specs.Machine.{operand, rows, pick, run, is_stuck}
 use Rattle.text.specs.Tokens.{run_end}
 use Rattle.text.specs.Syntax.{read_all}
-use Rattle.text.specs.Limited.{source, place}
+use Rattle.text.specs.Limited.{source}
 use Rattle.text.specs.Reading.{byte_of}
 use Rattle.text.specs.Forms.{form_of, found}
 use Rattle.text.specs.Survey.{fresh, survey}

@@ -4,10 +4,9 @@
 use Prim.Native.Nat.{ℕ, zero, suc, ◌+◌, ◌-◌, ◌*◌, ◌/◌, ◌%◌, ◌≤◌, ◌<◌}
 use mathlib.Core.Path.{◌≡◌, refl, sym, ◌∙◌, ap, subst, subst⁻¹}
 use mathlib.Core.Bool.{Bool, true, false, ◌&&◌, ◌||◌, not, cond, true≢false}
-use mathlib.Core.List.{List, [], ◌∷◌, ◌++◌}
+use mathlib.Core.List.{List, [], ◌∷◌}
 use native.Mathlib.Omega.{arith}
-use native.Mathlib.Numerals.{add-one}
-use lib.Dec.{T, eqb, ltb, leb, eqb→eq, leb→le}
+use lib.Dec.{T, eqb, leb, eqb→eq, leb→le}
 use borrow.Author.Tests.{eq-eqb, ne_eqb, lt-ltb, le-ltb}
 use Rattle.names.specs.Names.{position, same}
 use Rattle.text.specs.Limited.{word_at, function_names}
@@ -19,11 +18,11 @@ use Rattle.text.specs.declared.Level.{Level}
 use Rattle.text.specs.Grammar.{Token, opening, closing, '[', ']', dot, dots, at, comma, '::', NameTest, NodeType, 'processing_instruction', FunctionName, AxisName, Literal, Number, VariableReference, '/', '//', '|', '+', '-', '=', '!=', '<', '<=', '>', '>=', MultiplyOperator, 'and', 'or', 'div', 'mod', unknown}
 use Rattle.text.specs.Reading.{byte_of}
 use Rattle.text.proofs.Cutting.{place_inside, byte_place, byte_end}
-use Rattle.text.specs.Tokens.{code, class_of, classes_of, tokens}
+use Rattle.text.specs.Tokens.{code, classes_of, tokens}
 use Rattle.text.specs.Machine.{Mode, operand, argument, union, root, step, axis, test, type, empty, instruction, target, call, whole, part, number, Bracket, group, arguments, predicate, Act, refuse, go, enter, leave_round, leave_square, next_argument, rows, has, pick, State, stuck, reading, inner, done, next, run, start, is_stuck}
 use Rattle.text.specs.Survey.{fresh, path_begun, other_begun, joined_on, union_at, operated}
 use Rattle.text.proofs.Lexemes.{class_of_code}
-use Rattle.text.proofs.Machine.{run_append, run_stuck}
+use Rattle.text.proofs.Machine.{run_append}
 use Rattle.modes.specs.Acts.{modes, opened, act_number, act_of}
 use Rattle.levels.specs.Levels.{group_of, tightness_of, is_due, goes_on, level_in, stepped, slashed, grouped, bracketed, quoted}
 use Rattle.survey.specs.Standing.{Trail, trail, opened_kind, name_at, outer, others, trailed, mode_in, kind_at, trail_of, Goes, Small, Smalls, none, one, Left}

@@ -10,8 +10,8 @@ use Rattle.text.specs.Grammar.{unknown}
 use Rattle.text.specs.Tokens.{code, lexeme, operator_due, tokens, classes_of}
 use Rattle.text.specs.Machine.{operand, run, start, is_stuck}
 use Rattle.text.specs.Syntax.{read_all}
-use Rattle.text.specs.Limited.{Source, source, word_at, function_names, text_faults, least_lem}
-use Rattle.text.specs.Reading.{Form, outside, inside_lem, byte_of}
+use Rattle.text.specs.Limited.{Source, source, word_at, function_names}
+use Rattle.text.specs.Reading.{byte_of}
 use Rattle.text.specs.Forms.{form_of, found}
 use Rattle.text.specs.Survey.{fresh, end_faults, Survey, survey, survey_token, unread}
 use Rattle.text.proofs.Cutting.{Cut}
@@ -93,7 +93,7 @@ pub record Left (n q : ℕ) (l : Level) (ls : List Level) (name : ℕ) : Type 0 
 -- a token of this class stands between these bytes
 pub record Reads (text : List ℕ) (kind begin end : ℕ) : Type 0 where
   pub due : Bool
-  pub inside_lem : begin < length text
+  pub inside : begin < length text
   pub known : kind < 33
   pub class : kind ≡ (lexeme text begin due).kind
   pub ends : end ≡ (lexeme text begin due).end
@@ -206,7 +206,7 @@ pub record Opens (s : State) (t : Seen) : Type 0 where
   pub class : t.kind < 33
   pub further : s.count < t.end
   pub shallow : s.depth ≤ s.count
-  pub least_lem : s.low ≤ s.depth
+  pub least : s.low ≤ s.depth
   pub kind : (level_past s t).kind < 10
   pub rank : (level_past s t).rank < 3
   pub called : Called t.act s.name
@@ -281,7 +281,7 @@ pub record Standing (text list w : List ℕ) (s : State) : Type 0 where
   pub deep : s.depth ≡ length around
   pub shallow : s.depth ≤ s.count
   pub holds : Refilled text s.count w s.low (s.low + span)
-  pub least_lem : s.low ≤ s.depth
+  pub least : s.low ≤ s.depth
   pub most : s.depth ≤ s.low + span
   pub size : length w ≡ 4 * span
   pub sounds : T (sound (source text list) s.fault)
@@ -299,7 +299,7 @@ pub record Closing (text : List ℕ) (count depth low : ℕ) (w : List ℕ) : Ty
 -- the window holds the innermost of the levels around
 pub record Ready (text : List ℕ) (count depth low : ℕ) (w : List ℕ) : Type 0 where
   pub holds : Refilled text count w low (low + span)
-  pub least_lem : low < depth
+  pub least : low < depth
   pub most : depth ≤ low + span
   pub size : length w ≡ 4 * span
 

@@ -3,14 +3,14 @@
 -- Assumes nothing.
 use Prim.Native.Nat.{ℕ}
 use mathlib.Core.Path.{◌≡◌, refl, sym, ◌∙◌, ap, ap₂, subst}
-use mathlib.Core.Bool.{Bool, true, false, ◌||◌, ◌&&◌, cond}
+use mathlib.Core.Bool.{Bool, true, false, ◌&&◌}
 use mathlib.Core.List.{List, [], ◌∷◌, ◌++◌, append_assoc, cons≢nil}
 use lib.Dec.{T, eqb, eqb→eq}
 use lib.ListN.{get_or}
-use Rattle.text.specs.Grammar.{Token, opening, closing, '[', ']', dot, dots, at, comma, '::', NameTest, NodeType, 'processing_instruction', FunctionName, AxisName, Literal, Number, VariableReference, '/', '//', '|', '+', '-', '=', '!=', '<', '<=', '>', '>=', MultiplyOperator, 'and', 'or', 'div', 'mod', unknown}
-use Rattle.text.specs.Grammar.{Symbol, the, LocationPath, AbsoluteLocationPath, RelativeLocationPath, Step, AxisSpecifier, NodeTest, Predicates, Predicate, PredicateExpr, AbbreviatedAbsoluteLocationPath, AbbreviatedRelativeLocationPath, AbbreviatedStep, AbbreviatedAxisSpecifier, Expr, PrimaryExpr, FunctionCall, Arguments, Argument, UnionExpr, PathExpr, FilterExpr, OrExpr, AndExpr, EqualityExpr, RelationalExpr, AdditiveExpr, MultiplicativeExpr, UnaryExpr, productions, Among, first, later, Derives, none, token, by, Sentence, Viable}
-use Rattle.text.specs.Machine.{inner, Mode, operand, argument, union, root, step, axis, test, type, empty, instruction, target, call, whole, part, number, beginning, signing, stepping, testing, ending, continuing, Bracket, group, arguments, predicate, Act, refuse, go, enter, leave_round, leave_square, next_argument, Row, on, rows, has, pick, State, stuck, reading, done, next, run, start, accepting, is_stuck, accepts, readable}
-use Rattle.text.proofs.Machine.{and_l, and_r, or_e, number_tells, Each, each, run_append, over, Alive, done_over}
+use Rattle.text.specs.Grammar.{Token}
+use Rattle.text.specs.Grammar.{Symbol, the, LocationPath, AbsoluteLocationPath, RelativeLocationPath, Step, AxisSpecifier, NodeTest, Predicates, Predicate, PredicateExpr, AbbreviatedAbsoluteLocationPath, AbbreviatedRelativeLocationPath, AbbreviatedStep, AbbreviatedAxisSpecifier, Expr, PrimaryExpr, FunctionCall, Arguments, Argument, UnionExpr, PathExpr, FilterExpr, OrExpr, AndExpr, EqualityExpr, RelationalExpr, AdditiveExpr, MultiplicativeExpr, UnaryExpr, productions, Among, first, later, Derives, none, token, by, Sentence}
+use Rattle.text.specs.Machine.{inner, Mode, operand, part, number, beginning, signing, stepping, testing, ending, continuing, Bracket, group, arguments, predicate, rows, has, pick, State, stuck, reading, done, next, run, start, accepting, accepts}
+use Rattle.text.proofs.Machine.{and_l, and_r, Each, each, run_append, over, Alive, done_over}
 
 -- ---- tests over lists
 

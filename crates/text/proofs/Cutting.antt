@@ -7,8 +7,8 @@ use mathlib.Core.Bool.{Bool, true, false, cond}
 use mathlib.Core.List.{List, [], ◌∷◌, ◌++◌, map}
 use mathlib.Core.Logic.{⊎_elim}
 use lib.Dec.{eqb, ltb}
-use lib.ListN.{length, get_or, take, drop, length-map, length-drop, get_or-map, get_or-append}
-use lib.Seq.{drop-drop, take-suc, get_or-drop, get_or_at}
+use lib.ListN.{length, get_or, take, drop, length-map, length-drop, get_or-map}
+use lib.Seq.{drop-drop, take-suc, get_or-drop}
 use native.Mathlib.Omega.{arith}
 use native.Mathlib.Numerals.{add-one}
 use borrow.Author.Tests.{lt-ltb, le-ltb, eq-eqb, ne_eqb, ltb-true, eqb-false}

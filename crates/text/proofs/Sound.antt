@@ -6,8 +6,8 @@ use mathlib.Core.Bool.{Bool, true, false, cond}
 use mathlib.Core.List.{List, [], ◌∷◌, ◌++◌, append_assoc, append-nil, nil≢cons, tail-eq_of_cons-eq}
 use lib.Dec.{T}
 use Rattle.text.specs.Grammar.{Token, opening, closing, '[', ']', dot, dots, at, comma, '::', NameTest, NodeType, 'processing_instruction', FunctionName, AxisName, Literal, Number, VariableReference, '/', '//', '|', '+', '-', '=', '!=', '<', '<=', '>', '>=', MultiplyOperator, 'and', 'or', 'div', 'mod', unknown}
-use Rattle.text.specs.Grammar.{Symbol, the, LocationPath, AbsoluteLocationPath, RelativeLocationPath, Step, AxisSpecifier, NodeTest, Predicates, Predicate, PredicateExpr, AbbreviatedAbsoluteLocationPath, AbbreviatedRelativeLocationPath, AbbreviatedStep, AbbreviatedAxisSpecifier, Expr, PrimaryExpr, FunctionCall, Arguments, Argument, UnionExpr, PathExpr, FilterExpr, OrExpr, AndExpr, EqualityExpr, RelationalExpr, AdditiveExpr, MultiplicativeExpr, UnaryExpr, productions, Among, first, later, Derives, none, token, by, Sentence, Viable}
-use Rattle.text.specs.Machine.{inner, Mode, operand, argument, union, root, step, axis, test, type, empty, instruction, target, call, whole, part, number, beginning, signing, stepping, testing, ending, continuing, Bracket, group, arguments, predicate, Act, refuse, go, enter, leave_round, leave_square, next_argument, Row, on, rows, has, pick, State, stuck, reading, done, next, run, start, accepting, is_stuck, accepts, readable}
+use Rattle.text.specs.Grammar.{Symbol, RelativeLocationPath, Step, AxisSpecifier, NodeTest, Predicates, Expr, PrimaryExpr, Arguments, UnionExpr, PathExpr, FilterExpr, OrExpr, productions, first, later, none, token, Sentence}
+use Rattle.text.specs.Machine.{inner, Mode, operand, argument, union, root, step, axis, test, type, empty, instruction, target, call, whole, part, beginning, signing, stepping, testing, ending, continuing, Bracket, group, arguments, predicate, Act, go, enter, leave_round, leave_square, next_argument, Row, on, rows, has, pick, State, stuck, reading, done, next, run, start, accepting, accepts}
 use Rattle.text.proofs.Machine.{Each, each}
 use Rattle.text.proofs.Levels.{Is, cast, make, front, Binary, or, and, equality, relational, additive, multiplicative, joined, negated, whole_union, filtered}
 

@@ -67,7 +67,7 @@ spelled_reads {due} (more {t = t} {b = b} {v = v} s r) (suc fuel) h =
     let apart : 1 + length b ≡ 1 + length b + 0 = omega arith in
     let m : Meets (32 ∷ (b ++ (32 ∷ v))) (32 ∷ v) (1 + length b) (1 + length b) 0 = record { apart = apart; alike = k.behind } in
     rw (k.begins, lt-ltb 1 (length (32 ∷ (b ++ (32 ∷ v)))) (omega arith), k.is, k.known)
-    (ap₂ ◌∷◌ k.classed (tokens_meet (omega arith) fuel m (operator_due (code t)) ∙ spelled_reads r fuel (omega (arith, sign_long s))))
+    (ap₂ ◌∷◌ k.classed (tokens_meet (omega arith) fuel m (operator_due (code t)) ∙ spelled_reads {due = operator_due (code t)} r fuel (omega (arith, sign_long s))))
 
 -- ---- what leads a mode to an end
 
@@ -85,9 +85,9 @@ put s (v, r) = (_, more s r)
 shut_bytes : (due : Bool) (around : List Bracket) → Bytes due (shut around)
 unfolding shut close
 shut_bytes due [] = ([], none)
-shut_bytes due (group ∷ around) = put closes (shut_bytes _ around)
-shut_bytes due (arguments ∷ around) = put closes (shut_bytes _ around)
-shut_bytes due (predicate ∷ around) = put square (shut_bytes _ around)
+shut_bytes due (group ∷ around) = put closes (shut_bytes (operator_due (code closing)) around)
+shut_bytes due (arguments ∷ around) = put closes (shut_bytes (operator_due (code closing)) around)
+shut_bytes due (predicate ∷ around) = put square (shut_bytes (operator_due (code ']')) around)
 
 pub completion_bytes :
     (due : Bool) (m : Mode) (around : List Bracket) → T (not due || due_mode m)

@@ -3,17 +3,16 @@
 -- induction on the derivation does the rest.
 -- Assumes nothing.
 use Prim.Native.Nat.{ℕ, suc, ◌≤◌}
-use mathlib.Core.Path.{◌≡◌, refl, sym, ◌∙◌, ap, ap₂, subst, subst⁻¹}
-use mathlib.Core.Bool.{Bool, true, false, not, cond}
-use mathlib.Core.List.{List, [], ◌∷◌, ◌++◌}
-use lib.ListN.{get_or}
+use mathlib.Core.Path.{◌≡◌, refl, sym, ◌∙◌, ap, subst, subst⁻¹}
+use mathlib.Core.Bool.{Bool, true, false, cond}
+use mathlib.Core.List.{List, [], ◌∷◌}
 use native.Mathlib.Omega.{arith}
-use lib.Dec.{T, leb, leb→le, le→leb, not_T, T_not}
+use lib.Dec.{T, leb, leb→le, le→leb}
 use Rattle.text.specs.Grammar.{Token, opening, closing, '[', ']', dot, dots, at, comma, '::', NameTest, NodeType, 'processing_instruction', FunctionName, AxisName, Literal, Number, VariableReference, '/', '//', '|', '+', '-', '=', '!=', '<', '<=', '>', '>=', MultiplyOperator, 'and', 'or', 'div', 'mod', unknown}
-use Rattle.text.specs.Grammar.{Symbol, the, LocationPath, AbsoluteLocationPath, RelativeLocationPath, Step, AxisSpecifier, NodeTest, Predicates, Predicate, PredicateExpr, AbbreviatedAbsoluteLocationPath, AbbreviatedRelativeLocationPath, AbbreviatedStep, AbbreviatedAxisSpecifier, Expr, PrimaryExpr, FunctionCall, Arguments, Argument, UnionExpr, PathExpr, FilterExpr, OrExpr, AndExpr, EqualityExpr, RelationalExpr, AdditiveExpr, MultiplicativeExpr, UnaryExpr, productions, Among, first, later, Derives, none, token, by, Sentence}
-use Rattle.text.specs.Syntax.{Kind, word, number, string, variable, group, call, arguments, negative, binary, union, filter, onward, relative, absolute, chain, step, self, parent, axis, attribute, named, typed, instruction, target, predicates, Syntax, blank, part, begin, token_of, Reading, pass, makes, readings, made, which, past, stand_for, read_all}
+use Rattle.text.specs.Grammar.{Symbol, the, LocationPath, AbsoluteLocationPath, RelativeLocationPath, Step, AxisSpecifier, NodeTest, Predicates, Predicate, PredicateExpr, AbbreviatedAbsoluteLocationPath, AbbreviatedRelativeLocationPath, AbbreviatedStep, AbbreviatedAxisSpecifier, Expr, PrimaryExpr, FunctionCall, Arguments, Argument, UnionExpr, PathExpr, FilterExpr, OrExpr, AndExpr, EqualityExpr, RelationalExpr, AdditiveExpr, MultiplicativeExpr, UnaryExpr, productions, Sentence}
+use Rattle.text.specs.Syntax.{Kind, word, number, string, variable, group, call, arguments, negative, binary, union, filter, onward, relative, absolute, chain, step, self, parent, axis, attribute, named, typed, instruction, target, predicates, Syntax, blank, part, begin, token_of, readings, made, stand_for, read_all}
 use Rattle.text.proofs.Scheme.{View, a_token, a_name, Every, reads}
-use Rattle.text.specs.Growing.{Hole, hole, filled, tightness, strength, Due, wanted, rooted, tested, typing, called, had, Growth, grown, settle, top_strength, single, begun, with_axis, with_test, with_point, with_operand, targeted, with_string, with_opening, fill, for_arguments, for_filter, is_blank, close_round, with_closing, with_bracket, began, close_square, with_square, close_argument, with_comma, with_call, goes_on, with_slash, join, with_operator, with_minus, grow, settled, ended, syntax_of}
+use Rattle.text.specs.Growing.{Hole, hole, filled, tightness, strength, wanted, rooted, tested, had, Growth, grown, settle, top_strength, begun, with_axis, with_test, with_point, with_operand, with_string, with_opening, fill, for_arguments, for_filter, is_blank, close_round, with_closing, with_bracket, close_square, with_square, close_argument, with_comma, with_call, goes_on, with_slash, join, with_operator, with_minus, grow, settled, ended, syntax_of}
 
 -- ---- filling holes
 

@@ -3,14 +3,14 @@
 -- Assumes nothing.
 use Prim.Native.Nat.{ℕ, zero, suc, ◌≤◌, ◌<◌}
 use mathlib.Core.Path.{◌≡◌, refl, sym, ◌∙◌, ap, subst}
-use mathlib.Core.Bool.{Bool, true, false, not, cond, true≢false}
+use mathlib.Core.Bool.{Bool, true, false, cond, true≢false}
 use mathlib.Core.List.{List, [], ◌∷◌, ◌++◌, append_assoc}
 use mathlib.Core.Logic.{◌↔◌}
 use lib.Dec.{T}
 use lib.ListN.{length, take}
 use native.Mathlib.Omega.{arith}
-use Rattle.text.specs.Grammar.{Token, opening, closing, '[', ']', dot, dots, at, comma, '::', NameTest, NodeType, 'processing_instruction', FunctionName, AxisName, Literal, Number, VariableReference, '/', '//', '|', '+', '-', '=', '!=', '<', '<=', '>', '>=', MultiplyOperator, 'and', 'or', 'div', 'mod', unknown}
-use Rattle.text.specs.Machine.{inner, Mode, operand, argument, union, root, step, axis, test, type, empty, instruction, target, call, whole, part, number, beginning, signing, stepping, testing, ending, continuing, Bracket, group, arguments, predicate, Act, refuse, go, enter, leave_round, leave_square, next_argument, Row, on, rows, has, pick, State, stuck, reading, done, next, run, start, accepting, is_stuck, accepts, readable}
+use Rattle.text.specs.Grammar.{Token, opening, closing, ']', '::', NameTest}
+use Rattle.text.specs.Machine.{inner, Mode, operand, argument, union, root, step, axis, test, type, empty, instruction, target, call, whole, part, number, ending, Bracket, group, arguments, predicate, rows, has, pick, State, stuck, reading, done, next, run, start, accepting, is_stuck, accepts, readable}
 use Rattle.text.specs.Grammar.{Sentence, Viable, Longest}
 use Rattle.text.proofs.Machine.{each, run_append, run_stuck}
 use Rattle.text.proofs.Complete.{sentence_accepted}

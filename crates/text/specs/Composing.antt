@@ -2,13 +2,13 @@
 -- boolean() are counted in the frame that they stand behind. It is a way to compute, and need not be believed: a law says that it writes the
 -- rows of the text's tree.
 -- Assumes nothing: these are definitions.
-use Rattle.std.specs.Prelude.{ℕ, suc, ◌+◌, ◌-◌, max, Bool, true, false, ◌&&◌, ◌||◌, not, cond, List, [], ◌∷◌, ◌++◌, length, get_or, eqb, ltb, leb, Float}
+use Rattle.std.specs.Prelude.{ℕ, ◌+◌, ◌-◌, max, Bool, ◌&&◌, ◌||◌, cond, List, [], ◌∷◌, ◌++◌, get_or, eqb, ltb, leb, Float}
 use Rattle.meaning.specs.Rows.{code}
 use Rattle.names.specs.Names.{position}
 use Rattle.text.specs.declared.Sort.{Sort}
 use Rattle.text.specs.declared.Sort.TheVariants.{Numeral, Truth, Nodes, Unheld}
 use Rattle.text.specs.Grammar.{Token, opening, closing, '[', ']', dot, dots, at, comma, '::', NameTest, NodeType, 'processing_instruction', FunctionName, AxisName, Literal, Number, VariableReference, '/', '//', '|', '+', '-', '=', '!=', '<', '<=', '>', '>=', MultiplyOperator, 'and', 'or', 'div', 'mod', unknown}
-use Rattle.text.specs.Machine.{Mode, operand, argument, has, beginning, signing, ending}
+use Rattle.text.specs.Machine.{Mode, operand, has, signing, ending}
 use Rattle.text.specs.Syntax.{read_all}
 use Rattle.text.specs.Limited.{Source, place, word_of, function_names, axis_number, value_at}
 use Rattle.text.specs.Reading.{index_of, with, operation, name_number, type_number}

@@ -1,7 +1,7 @@
 -- What of a text document 01 can hold (document 02, W-202): words, the sorts of expressions, and the faults 24, 25 and 26 with their bytes.
 -- It stands over the tree of constructs, a line for each kind of construct.
 -- Assumes nothing: these are definitions.
-use Rattle.std.specs.Prelude.{ℕ, zero, suc, ◌+◌, ◌-◌, ◌^◌, Bool, true, false, ◌&&◌, ◌||◌, not, cond, List, [], ◌∷◌, ◌++◌, length, get_or, eqb, ltb, leb, Float}
+use Rattle.std.specs.Prelude.{ℕ, suc, ◌+◌, ◌-◌, ◌^◌, Bool, true, false, ◌&&◌, ◌||◌, not, cond, List, [], ◌∷◌, ◌++◌, length, get_or, eqb, ltb, leb, Float}
 use Rattle.std.specs.Float.{binary64}
 use Rattle.std.specs.Float.Ieee as Ieee
 use Rattle.meaning.specs.Lists.{keep}
@@ -14,22 +14,22 @@ use Rattle.text.specs.declared.Fault.{Fault}
 use Rattle.text.specs.declared.Sort.{Sort}
 use Rattle.text.specs.declared.Sort.TheVariants.{Numeral, Truth, Nodes, Unheld}
 use Rattle.text.specs.Grammar.{Token}
-use Rattle.text.specs.Tokens.{byte, many, between, run_end, name_end, number_end, star_at, Placed, tokens_lem, place_in}
+use Rattle.text.specs.Tokens.{byte, many, between, run_end, name_end, number_end, star_at, Placed, tokens, place_in}
 use Rattle.text.specs.Syntax.{Kind, word, number, string, variable, group, call, arguments, negative, binary, union, filter, onward, relative, absolute, chain, step, self, parent, axis, attribute, named, typed, instruction, target, predicates, is_kind, Syntax, blank, part, begin}
 use Rattle.text.specs.Growing.{tightness}
 
--- a text with its tokens_lem, and the names
+-- a text with its tokens, and the names
 pub record Source : Type 0 where
   pub text : List ℕ
-  pub tokens_lem : List Placed
+  pub tokens : List Placed
   pub names : List (List ℕ)
 
 unfoldable pub source : List ℕ → List ℕ → Source
-source text list = record { text = text; tokens_lem = tokens_lem text; names = names_of list }
+source text list = record { text = text; tokens = tokens text; names = names_of list }
 
 -- the first byte of token i
 abbrev pub place : Source → ℕ → ℕ
-place s i = place_in s.tokens_lem (length s.text) i
+place s i = place_in s.tokens (length s.text) i
 
 -- ---- words
 

@@ -1,7 +1,7 @@
 -- What a text stands for (document 02, W-202): document 01's tree, its rows in postorder and its literals; and the answer of the reader.
 -- Checks run in the order of the request; the first that applies is given, and no other.
 -- Assumes nothing: these are definitions.
-use Rattle.std.specs.Prelude.{ℕ, suc, ◌+◌, ◌-◌, ◌*◌, ◌≡◌, Bool, cond, List, [], ◌∷◌, ◌++◌, length, get_or, drop, eqb, ltb, leb, Float}
+use Rattle.std.specs.Prelude.{ℕ, suc, ◌+◌, ◌-◌, ◌*◌, ◌≡◌, cond, List, [], ◌∷◌, ◌++◌, length, get_or, drop, eqb, ltb, leb, Float}
 use Rattle.std.specs.Float.Ieee as Ieee
 use Rattle.meaning.specs.Rows.{Op, most_path_rows, most_literals}
 use Rattle.meaning.specs.Rows as R
@@ -17,7 +17,7 @@ use Rattle.text.specs.declared.Sort.TheVariants.{Numeral, Truth, Nodes, Unheld}
 use Rattle.text.specs.Grammar.{Token, Sentence, Longest}
 use Rattle.text.specs.Grammar as G
 use Rattle.text.specs.Tokens.{code, tokens, classes_of, place_in}
-use Rattle.text.specs.Syntax.{Kind, word, number, string, variable, group, call, arguments, negative, binary, union, filter, onward, relative, absolute, chain, step, self, parent, axis, attribute, named, typed, instruction, target, predicates, is_kind, Syntax, blank, part, stand_for}
+use Rattle.text.specs.Syntax.{word, number, string, variable, group, call, arguments, negative, binary, union, filter, onward, relative, absolute, chain, step, self, parent, axis, attribute, named, typed, instruction, target, predicates, is_kind, Syntax, blank, part, stand_for}
 use Rattle.text.specs.Growing.{tightness}
 use Rattle.text.specs.Limited.{Source, source, place, word_of, is_star, Function, position_function, last_function, count_function, not_function, boolean_function, other_function, function_of, axis_number, value_at, sort, text_faults, least}
 

@@ -1,7 +1,7 @@
 -- What a text stands for (the Recommendation, productions 1 to 27): beside each production, which construct it makes of its parts, and so
 -- the tree of constructs that a derivation gives. A construct knows the number of its first token in the text.
 -- Assumes nothing: these are definitions.
-use Rattle.std.specs.Prelude.{ℕ, suc, Bool, List, [], ◌∷◌, ◌++◌, get_or, eqb}
+use Rattle.std.specs.Prelude.{ℕ, suc, Bool, List, [], ◌∷◌, get_or, eqb}
 use Rattle.text.specs.Grammar.{Token, unknown, Symbol, the, LocationPath, AbsoluteLocationPath, RelativeLocationPath, Step, AxisSpecifier, NodeTest, Predicates, Predicate, PredicateExpr, AbbreviatedAbsoluteLocationPath, AbbreviatedRelativeLocationPath, AbbreviatedStep, AbbreviatedAxisSpecifier, Expr, PrimaryExpr, FunctionCall, Arguments, Argument, UnionExpr, PathExpr, FilterExpr, OrExpr, AndExpr, EqualityExpr, RelationalExpr, AdditiveExpr, MultiplicativeExpr, UnaryExpr, Among, first, later, Derives, none, token, by}
 
 -- The constructs. word: a token that stands for nothing else. onward: steps from an expression. chain: a `/` or `//` between steps.

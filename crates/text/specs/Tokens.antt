@@ -1,7 +1,7 @@
 -- The tokens of a text (the Recommendation, 3.7): bytes to classes of tokens, the longest token first, by the byte that begins it and by
 -- whether an operator is due, which the token before it decides.
 -- Assumes nothing: these are definitions.
-use Rattle.std.specs.Prelude.{ℕ, zero, suc, ◌+◌, ◌-◌, Bool, true, false, ◌&&◌, ◌||◌, not, cond, List, [], ◌∷◌, map, length, get_or, take, drop, eqb, ltb, leb}
+use Rattle.std.specs.Prelude.{ℕ, zero, suc, ◌+◌, ◌-◌, Bool, false, ◌&&◌, ◌||◌, not, cond, List, [], ◌∷◌, map, length, get_or, take, drop, eqb, ltb, leb}
 use Rattle.decimal.specs.Decimal.{ascii, is_digit}
 use Rattle.names.specs.Names.{is_letter, is_name_byte, position}
 use Rattle.text.specs.declared.Lexeme.{Lexeme}

@@ -1,7 +1,7 @@
 -- Composing writes two operands with an operator between them, and an operand behind a sign, as their rows.
 -- Assumes nothing.
 use Prim.Native.Nat.{ℕ, ◌≤◌}
-use mathlib.Core.Path.{◌≡◌, refl, sym, ◌∙◌, ap, subst, subst⁻¹}
+use mathlib.Core.Path.{◌≡◌, refl, sym, ◌∙◌, ap, subst⁻¹}
 use mathlib.Core.Bool.{Bool, true, false, cond}
 use mathlib.Core.List.{List, [], ◌∷◌}
 use native.Mathlib.Omega.{arith}
@@ -23,7 +23,6 @@ use Rattle.text.specs.Limited.{Source, operator_sort, sort, own}
 use Rattle.text.specs.Reading.{values, distinct, operation, as_truth, operand_of, held}
 use Rattle.text.specs.Survey.{mode_after}
 use Rattle.text.specs.Composing.{Frame, frame, Pen, desk, Draft, draft, put, link_of, truthful, emptied, strength_of, row_of, may_fill, settle, with_pen, push, is_path_op, paths_in, operator_read, mode_in, compose_token}
-use Rattle.text.proofs.Scheme.{reads}
 use Rattle.text.proofs.Composition.Pens.{after, after_emptied, puts, puts_one, true_sort, truthful_after, truth_depth, stays, fills, same_draft}
 use Rattle.text.proofs.Composition.Drafts.{Ready, Same, same_fills, same_paths, same_sort, mark, no_path, Due, deeper, at_operand, same, due}
 use Rattle.text.proofs.Composition.Moves.{wanted, operated, read_operator, minus_due}

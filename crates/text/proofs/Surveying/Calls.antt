@@ -19,7 +19,7 @@ use Rattle.text.specs.Syntax as K
 use Rattle.text.specs.Machine.{Mode, operand, argument, has, beginning, ending, rows, pick, number, inner}
 use Rattle.text.specs.Machine as M
 use Rattle.text.specs.Limited.{Source, place, sort, own, fault, is_path, path_taken, word_of, Function, position_function, last_function, count_function, not_function, boolean_function, other_function, function_names, function_of, holds_call, result_of, is_held_call, call_sort, arity, argument_faults}
-use Rattle.text.specs.Survey.{urgency, worst, noted, end_faults, level_sort, Survey, survey, after, survey_token, opening_read, closing_read, name_read, string_read, comma_read, fresh, left, sort_behind, fault_behind, other_begun, operand_read, function_at, wants_path, bare, member_sort}
+use Rattle.text.specs.Survey.{urgency, worst, noted, end_faults, level_sort, Survey, survey, after, survey_token, opening_read, closing_read, name_read, string_read, comma_read, fresh, left, sort_behind, fault_behind, other_begun, operand_read, function_at, wants_path}
 use Rattle.text.proofs.Machine.{each}
 use Rattle.text.proofs.Surveying.Urgent.{max_assoc, max_again, maxima, mark, noted_mark, worst_in, worst_parts, worst_blank, worst_one, as_a_path, leaf_worst, leaf_finds, quiet_worst}
 use Rattle.text.proofs.Surveying.Seen.{or_false, and_true, Low, low}
@@ -175,11 +175,17 @@ module _ (s : Source) where
   first_argued {i = i} {x = x} (whole {l' = l'} {v' = v'} {found' = found'} e b w) =
       single {l' = l'} {v' = v'} {found' = found'} e refl refl (rw (arguments_worst i blank x, worst_blank, zero-max) w)
 
+  one_argued :
+      (i : ℕ) (g : Survey) → Arguing s i g
+      → Before s Low i g
+      × ((g' : Survey) (j : ℕ) (x : Syntax) → Wholly s 1 g i x g' → Argues s g i (part K.arguments unknown i blank blank x) g')
+  one_argued i g (arguing e h) = (before e low, (λ g' j x w. first_argued w))
+
   pub one_argument :
       (g : Survey) (i : ℕ) → Arguing s i g
       → Before s Low i g
       × ((g' : Survey) (j : ℕ) (x : Syntax) → Wholly s 1 g i x g' → Argues s g i (part K.arguments unknown i blank blank x) g')
-  one_argument g i (arguing e h) = (before e low, (λ g' j x w. first_argued w))
+  one_argument g i a = one_argued i g a
 
   -- several: the fault of the call is before all that its arguments show
   urgency_falls : (n p q : ℕ) → p ≤ q → urgency s n q ≤ urgency s n p
@@ -260,6 +266,15 @@ module _ (s : Source) where
       next_argument j m' l' v' n' found' e (omega arith)
       (parted o.m o.m (worst_in s x) found (end_faults (noted s) l' v' found') true (omega arith) c)
 
+  another_argued :
+      (i : ℕ) (g : Survey) → Arguing s i g
+      → Arguing s i g
+      × ((g1 : Survey) (j : ℕ) (x : Syntax) → Argues s g i x g1
+      → Before s Low (suc j) (survey_token s g1 j comma)
+      × ((g2 : Survey) (n : ℕ) (y : Syntax) → Wholly s 1 (survey_token s g1 j comma) (suc j) y g2
+      → Argues s g i (part K.arguments unknown i x blank y) g2))
+  another_argued i g (arguing e h) = (arguing e h, (λ g1 j x w. after_arguments j h w))
+
   pub another_argument :
       (g : Survey) (i : ℕ) → Arguing s i g
       → Arguing s i g
@@ -267,7 +282,7 @@ module _ (s : Source) where
       → Before s Low (suc j) (survey_token s g1 j comma)
       × ((g2 : Survey) (n : ℕ) (y : Syntax) → Wholly s 1 (survey_token s g1 j comma) (suc j) y g2
       → Argues s g i (part K.arguments unknown i x blank y) g2))
-  another_argument g i (arguing e h) = (arguing e h, (λ g1 j x w. after_arguments j h w))
+  another_argument g i a = another_argued i g a
 
   -- a call of one argument: its own fault, or its argument's
   own_mark : (i p found : ℕ) → p ≡ place s i → max (urgency s 26 p) (max 0 found) ≡ max (max (urgency s 26 (place s i)) 0) found

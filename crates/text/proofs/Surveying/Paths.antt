@@ -16,7 +16,7 @@ use Rattle.text.specs.Syntax as K
 use Rattle.text.specs.Machine.{Mode, operand, root, step, has, beginning, stepping, testing, ending, continuing, rows, pick, number, on, go, inner}
 use Rattle.text.specs.Machine as M
 use Rattle.text.specs.Limited.{Source, place, sort, own, fault}
-use Rattle.text.specs.Survey.{urgency, worst, noted, end_faults, level_sort, Survey, survey, after, mode_after, mode_of, survey_token, begins, path_begun, joined_on, step_read, opening_read, closing_read, name_read, string_read, slash_read, bracket_read, fresh, left, sort_behind, fault_behind, wants_path, bare, member_sort}
+use Rattle.text.specs.Survey.{urgency, worst, noted, end_faults, level_sort, Survey, survey, after, mode_after, mode_of, survey_token, begins, path_begun, joined_on, step_read, opening_read, closing_read, name_read, string_read, slash_read, bracket_read, fresh, left, sort_behind, fault_behind}
 use Rattle.text.proofs.Machine.{each}
 use Rattle.text.proofs.Surveying.Urgent.{max_again, maxima, mark, noted_mark, worst_in, worst_parts, worst_blank, leaf_finds, blank_finds, quiet_worst, quiet_finds, unheld_worst}
 use Rattle.text.proofs.Surveying.Seen.{or_false, or_true, Low, low, Seen, behind}

@@ -1,9 +1,9 @@
 -- Where the survey finds nothing each token is without a fault of its own: names are known and numbers short. The fault that was found never
 -- becomes less urgent, and a token's own fault is among what is found behind it.
 -- Assumes nothing.
-use Prim.Native.Nat.{ℕ, zero, suc, ◌+◌, ◌≤◌, ◌<◌, max}
+use Prim.Native.Nat.{ℕ, suc, ◌≤◌, ◌<◌, max}
 use mathlib.Core.Path.{◌≡◌, refl, sym, ◌∙◌, ap, subst}
-use mathlib.Core.Bool.{Bool, true, false, ◌&&◌, ◌||◌, not, cond}
+use mathlib.Core.Bool.{Bool, true, false, ◌&&◌, not, cond}
 use mathlib.Core.List.{List, [], ◌∷◌, ◌++◌}
 use mathlib.Core.Logic.{⊎_elim}
 use native.Mathlib.Omega.{arith}
@@ -14,7 +14,6 @@ use Rattle.meaning.proofs.Bools.{lt_or_ge}
 use lib.ListN.{length, get_or, take, drop, take-append-drop}
 use lib.Seq.{length-take-le, drop-cons}
 use Rattle.names.specs.Names.{is_named, names_of}
-use Rattle.text.specs.declared.Fault.{Fault}
 use Rattle.text.specs.declared.Level.{Level}
 use Rattle.text.specs.declared.Sort.{Sort}
 use Rattle.text.specs.Grammar.{Token, opening, closing, '[', ']', dot, dots, at, comma, '::', NameTest, NodeType, 'processing_instruction', FunctionName, AxisName, Literal, Number, VariableReference, '/', '//', '|', '+', '-', '=', '!=', '<', '<=', '>', '>=', MultiplyOperator, 'and', 'or', 'div', 'mod', unknown, Sentence}
@@ -23,7 +22,7 @@ use Rattle.text.specs.Tokens.{classes_of}
 use Rattle.text.specs.Growing.{syntax_of}
 use Rattle.text.specs.Syntax.{read_all, past}
 use Rattle.text.specs.Limited.{Source, source, place, word_of, is_star, has_prefix, number_at, digits, most_digits, name_faults, digit_faults, text_faults}
-use Rattle.text.specs.Survey.{urgency, worst, noted, fresh, path_begun, other_begun, joined_on, union_at, operated, operator_faults, sign_faults, end_faults, Survey, survey, begins, step_read, operand_read, slash_read, bracket_read, opening_read, left, closing_read, comma_read, bar_read, operator_read, minus_read, string_read, name_read, survey_token, unread, finished, surveyed}
+use Rattle.text.specs.Survey.{urgency, worst, noted, operator_faults, sign_faults, end_faults, Survey, survey, begins, step_read, operand_read, slash_read, bracket_read, opening_read, left, closing_read, comma_read, bar_read, operator_read, minus_read, string_read, name_read, survey_token, unread, finished, surveyed}
 use Rattle.text.proofs.Scheme.{read_append}
 use Rattle.text.proofs.Cutting.{classes_length, place_inside, source_ascends}
 use Rattle.text.proofs.Surveying.Least.{past_length}

@@ -10,7 +10,7 @@ use Rattle.text.specs.declared.Sort.{Sort}
 use Rattle.text.specs.declared.Sort.TheVariants.{Nodes, Unheld}
 use Rattle.text.specs.declared.Level.{Level}
 use Rattle.text.specs.Grammar.{Token}
-use Rattle.text.specs.Syntax.{Syntax, part, begin}
+use Rattle.text.specs.Syntax.{Syntax, begin}
 use Rattle.text.specs.Machine.{Mode, has, beginning, signing, stepping, testing, ending, continuing}
 use Rattle.text.specs.Machine as M
 use Rattle.text.specs.Limited.{Source, place, sort, arity}

@@ -9,8 +9,8 @@ use lib.Dec.{eqb, leb}
 use Rattle.text.specs.declared.Sort.{Sort}
 use Rattle.text.specs.declared.Sort.TheVariants.{Numeral, Truth, Unheld}
 use Rattle.text.specs.declared.Level.{Level}
-use Rattle.text.specs.Limited.{Source, number_taken, path_taken}
-use Rattle.text.specs.Survey.{wants_path, bare, member_sort, level_sort, operated, operator_faults, sign_faults, end_faults, noted}
+use Rattle.text.specs.Limited.{Source, number_taken}
+use Rattle.text.specs.Survey.{wants_path, bare, level_sort, operated, operator_faults, sign_faults, end_faults, noted}
 use Rattle.text.proofs.Surveying.Urgent.{max_assoc, maxima, mark, noted_mark}
 
 -- ---- tests

@@ -15,7 +15,7 @@ use Rattle.text.specs.Machine.{operand, has, stepping, rows, number}
 use Rattle.text.specs.Machine as M
 use Rattle.text.specs.Growing.{tightness, syntax_of}
 use Rattle.text.specs.Limited.{Source, place, sort, own, faults, text_faults, as_path}
-use Rattle.text.specs.Survey.{worst, operated, Survey, survey_token, fresh, wants_path, unread, finished, surveyed}
+use Rattle.text.specs.Survey.{worst, operated, Survey, survey_token, fresh, unread, finished, surveyed}
 use Rattle.text.proofs.Scheme.{View, a_token, a_name, Every, reads}
 use Rattle.text.proofs.Tree.{the_tree}
 use Rattle.text.proofs.Surveying.Urgent.{worst_append, worst_in, as_a_path}

@@ -1,0 +1,24 @@
+-- `compose::deal::operator_token` meets its contract.
+-- Assumes nothing.
+use native.Mathlib.Omega.{arith}
+use borrow.Author.Rules.{rules}
+use Rattle.compose.proofs.Frames.{worked_as}
+use Rattle.compose.proofs.Deals.{worked_then, does_operate}
+use Rattle.compose.proofs.deal.operator_token.Goals as goal
+
+pub push_frame-requires : goal.push_frame-requires
+push_frame-requires c =
+    let most = (c.left_operand-left.ensures
+    c.args.ops.now c.args.opens.now).most in (
+      omega (arith, most, c.settle_frames-settled.ensures.most),
+      search rules,
+      search rules,
+    )
+
+pub returns : goal.returns
+returns c =
+    let g = c.args in
+    worked_as _ 4 (worked_then
+    (worked_then c.settle_frames-settled.ensures (c.left_operand-left.ensures g.ops.now g.opens.now)) (c.push_frame.ensures _))
+    (does_operate g.op _
+    c.strength-k.ensures) (omega arith)

@@ -1,0 +1,19 @@
+-- `compose::desk::open_truth` meets its contract.
+-- Assumes nothing.
+use native.Mathlib.Omega.{arith}
+use mathlib.Core.Path.{refl}
+use Rattle.text.specs.Composing.{open_truth}
+use Rattle.compose.specs.Standing.{Countable}
+use Rattle.compose.proofs.Frames.{opened_none, opened_truth}
+use Rattle.compose.proofs.desk.open_truth.Goals as goal
+
+pub returns-then-height-eq0 : goal.returns-then-height-eq0
+unfolding open_truth
+returns-then-height-eq0 c = opened_none open_truth _ _ (λ p. refl) c.if-height-eq0.true
+
+pub overflow_add-open : goal.overflow_add-open
+unfolding Countable
+overflow_add-open c = let few = c.requires.2 (omega arith) in record { fits = omega (arith, few) }
+
+pub returns : goal.returns
+returns c = opened_truth _ _ _ (omega arith) (omega arith) c.store_open.ensures

@@ -1,0 +1,30 @@
+-- `compose::pen::made_predicate` meets its contract, by the sort in hand.
+-- Assumes nothing.
+use native.Mathlib.Omega.{arith}
+use Rattle.text.specs.Composing.{predicable}
+use Rattle.compose.proofs.Rows.{pen_kept, penned_as, predicable_nodes, predicable_numeral, predicable_truth, predicable_unheld}
+use Rattle.compose.proofs.pen.made_predicate.Goals as goal
+
+pub returns-in-Numeral : goal.returns-in-Numeral
+returns-in-Numeral c =
+    let g = c.args in
+    penned_as predicable 1 (pen_kept g.hand g.rows.now) (predicable_numeral g.hand g.rows.now c.in-Numeral.is)
+    (omega arith)
+
+pub returns-in-Truth : goal.returns-in-Truth
+returns-in-Truth c =
+    let g = c.args in
+    penned_as predicable 1 (pen_kept g.hand g.rows.now) (predicable_truth g.hand g.rows.now c.in-Truth.is)
+    (omega arith)
+
+pub returns-in-Nodes : goal.returns-in-Nodes
+returns-in-Nodes c =
+    let g = c.args in
+    penned_as predicable 1 c.write_row.ensures
+    (predicable_nodes g.hand g.rows.now c.in-Nodes.is) (omega arith)
+
+pub returns-in-Unheld : goal.returns-in-Unheld
+returns-in-Unheld c =
+    let g = c.args in
+    penned_as predicable 1 (pen_kept g.hand g.rows.now) (predicable_unheld g.hand g.rows.now c.in-Unheld.is)
+    (omega arith)

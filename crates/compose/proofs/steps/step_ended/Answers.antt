@@ -1,0 +1,19 @@
+-- `compose::steps::step_ended` meets its contract.
+-- Assumes nothing.
+use mathlib.Core.Path.{sym, ◌∙◌}
+use Rattle.compose.proofs.Drafts.{ended, not_ended}
+use Rattle.compose.proofs.steps.step_ended.Goals as goal
+
+pub returns-then-is_beginning : goal.returns-then-is_beginning
+returns-then-is_beginning c =
+    let g = c.args in
+    λ values. not_ended g.state g.rows.now g.ops.now g.opens.now values
+    (sym c.is_beginning.ensures ∙ c.if-is_beginning.true)
+
+pub returns : goal.returns
+returns c =
+    let g = c.args in
+    rw c.moved_to.ensures
+    (λ values. ended g.state g.rows.now g.ops.now g.opens.now values _
+    (sym c.is_beginning.ensures
+    ∙ c.if-is_beginning.false) c.settle_frames-done.ensures)

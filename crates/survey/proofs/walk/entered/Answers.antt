@@ -1,0 +1,18 @@
+-- `survey::walk::entered` meets its contract, by those of the functions that it calls.
+-- Assumes nothing.
+use mathlib.Core.Path.{◌∙◌}
+use Rattle.survey.specs.Standing.{opened_by, Called}
+use Rattle.survey.proofs.walk.entered.Goals as goal
+
+pub store-requires : goal.store-requires
+store-requires c =
+    let pre = c.requires in
+    (pre.1, rw c.level_behind.ensures pre.0.kind, rw c.level_behind.ensures pre.0.rank)
+
+pub opened_kind-requires : goal.opened_kind-requires
+unfolding Called
+opened_kind-requires c = c.requires.0.called
+
+pub returns : goal.returns
+unfolding opened_by
+returns c = (cc, c.store.ensures ∙ rw c.level_behind.ensures)
