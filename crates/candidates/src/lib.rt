@@ -63,7 +63,7 @@ fn list_descendants(table: &[u32], test: usize, x: usize, list: &mut [u16]) -> u
     list_range(table, x, test, x + 1, past, list)
 }
 
-// Those of the descendant_or_self axis: the same, and x before them.
+// Those of the descendant-or-self axis: the same, and x before them.
 fn list_subtree(table: &[u32], test: usize, x: usize, list: &mut [u16]) -> usize
     requires { (rows table.now ≤ most_rows) × (x < 4294967296) × (rows table.now ≤ length list.old) }
     ensures { (take result list.new ≡ candidates 2 table.now descendant_or_self (test_of test) x) × (result ≤ rows table.now) }

@@ -57,12 +57,12 @@ module _ (text : List ℕ) (p : ℕ) where
       (not (is_ending (code other)))
       → is_ending (class_among words ts other w) ≡ false
   unfolding class_among
-  among words ts other w h k = untrue-is (is_ending (code (get_or ts (position words w) other)))
+  among words ts other w h k = untrue_is (is_ending (code (get_or ts (position words w) other)))
       (all_at (λ t. not (is_ending (code t))) ts (position words w) other h k)
     where
-      untrue-is : (b : Bool) → T (not b) → b ≡ false
-      untrue-is true t = absurd t
-      untrue-is false t = refl
+      untrue_is : (b : Bool) → T (not b) → b ≡ false
+      untrue_is true t = absurd t
+      untrue_is false t = refl
 
   -- of some classes none is a number
   no_number : (words : List (List ℕ)) (ts : List Token) (other : Token) (w : List ℕ) → T (all (λ t. not (eqb (code t) 15)) ts) → T

@@ -1,6 +1,6 @@
 -- Cases of document 02's W-201 and of its readings, as a single table under a single statement: for a file and a room the number and the place.
 -- And the ten lines of document 02 are the bytes of its two rows.
--- Assumes nothing: each answer is computed from the definitions, by `form_of`, which is a file's form (`form_of`).
+-- Assumes nothing: each answer is computed from the definitions, by `form_of`, which is a file's form (`form_of_lem`).
 use Prim.Native.Nat.{ℕ}
 use Prim.Native.String.{String}
 use mathlib.Core.Path.{◌≡◌, refl}

@@ -1,4 +1,4 @@
--- Laws of the axes, with the axis as a parameter: the inverse_axis law, and ancestors by the chain of parents.
+-- Laws of the axes, with the axis as a parameter: the inverse-axis law, and ancestors by the chain of parents.
 -- Assumes nothing.
 use Prim.Native.Nat.{ℕ, zero, suc, ◌<◌, ◌≤◌}
 use mathlib.Core.Path.{◌≡◌, refl, sym, subst, ◌∙◌}

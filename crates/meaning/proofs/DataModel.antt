@@ -162,7 +162,7 @@ module _ (t : List ℕ) (acc : accepted t ≡ true) where
       )
       (range_length (rows t) x (x + 1) (omega (arith, first.below)) ∙ omega arith)
 
-  -- no two texts are neighbours as siblings: of a node and the first on its preceding_sibling axis one is no text
+  -- no two texts are neighbours as siblings: of a node and the first on its preceding-sibling axis one is no text
   pub no_neighbour_texts : (i j : ℕ) → i < rows t → place t A.preceding_sibling i j ≡ 1 → (is_text t i && is_text t j) ≡ false
   unfolding place axis_nodes on is_reverse ordered previous_sibling text_after_text
   no_neighbour_texts i j h e =

@@ -73,11 +73,11 @@ code_of n h = eqb-true (code (op_of n)) n (alike (eqb (code (op_of n)) n) true
 pub op_is : (k n : ℕ) → 0 < k → k ≤ 25 → eqb (code (op_of n)) k ≡ eqb n k
 op_is k n p q = elim (lt_or_ge 25 n) [
   | inr l ↦ rw (code_of n l)
-  | inl l ↦ ap (λ (o : Op). eqb (code o) k) (op_past n l) ∙ ne_eqb (code R.unknown) k (λ e. omega (arith, unknown-code)) ∙ sym (ne_eqb n k (λ e. omega arith))
+  | inl l ↦ ap (λ (o : Op). eqb (code o) k) (op_past n l) ∙ ne_eqb (code R.unknown) k (λ e. omega (arith, unknown_code)) ∙ sym (ne_eqb n k (λ e. omega arith))
 ]
   where
-    unknown-code : code R.unknown ≡ 0
-    unknown-code = unfold code in refl
+    unknown_code : code R.unknown ≡ 0
+    unknown_code = unfold code in refl
 
 -- which ops have a link in field a, and in field b
 pub first_ops : (n : ℕ) → is_link (fields_of (op_of n)).a ≡ (leb 4 n && leb n 25)

@@ -242,15 +242,15 @@ selects_no_attribute p literals = by (path_tree p)
   where
     by : (s : Tree) → attribute_step s ≡ 0 → (edition : ℕ) (t : List ℕ) → accepted t ≡ true → (x : ℕ) → Plain t x → (y : ℕ) → T (has (select edition t literals s x) y) → Plain t y
     by none e edition t acc x h y k = absurd (unfold select some in k)
-    by (node op a b c d) e edition t acc x h y k = walk_stays_plain t acc edition literals a usual (start_of t op x) from-plain y (unfold select in k)
+    by (node op a b c d) e edition t acc x h y k = walk_stays_plain t acc edition literals a usual (start_of t op x) from_plain y (unfold select in k)
       where
         usual : of_attributes a ≡ false
         usual =
             let z : first_step is_of_attributes a ≡ 0 = unfold attribute_step in e in
             sym (first_step_lem is_of_attributes a) ∙ ap (ltb 0) z
 
-        from-plain : (z : ℕ) → T (has (start_of t op x) z) → Plain t z
-        from-plain z m = start_plain t acc (is_absolute op) x h z (unfold start_of in m)
+        from_plain : (z : ℕ) → T (has (start_of t op x) z) → Plain t z
+        from_plain z m = start_plain t acc (is_absolute op) x h z (unfold start_of in m)
 
 -- where the turned rows are turned again, the rows turned twice select y from x exactly when the path does, on every accepted table and
 -- for nodes that are no attributes

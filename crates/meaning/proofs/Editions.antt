@@ -80,24 +80,24 @@ module _ (edition : ℕ) (t : List ℕ) (literals : List Float) where
 
     -- and a path selects the same nodes, for its expressions have the same values, its steps lead to the same nodes and its predicates keep
     -- the same
-    second-value : (s : Tree) (x : Context) → value edition t literals s x ≡ value 2 t literals (read_in_second edition s) x
-    second-value none x = refl
-    second-value (node op a b c d) x = rw (second-value a x, second-value b x, second-select a x.node)
+    second_value : (s : Tree) (x : Context) → value edition t literals s x ≡ value 2 t literals (read_in_second edition s) x
+    second_value none x = refl
+    second_value (node op a b c d) x = rw (second_value a x, second_value b x, second_select a x.node)
 
-    pub second-select : (s : Tree) (x : ℕ) → select edition t literals s x ≡ select 2 t literals (read_in_second edition s) x
-    second-select none x = refl
-    second-select (node op a b c d) x = second_walk a (start_of t op x)
+    pub second_select : (s : Tree) (x : ℕ) → select edition t literals s x ≡ select 2 t literals (read_in_second edition s) x
+    second_select none x = refl
+    second_select (node op a b c d) x = second_walk a (start_of t op x)
 
     second_walk : (s : Tree) (set : List ℕ) → walk edition t literals s set ≡ walk 2 t literals (read_in_second edition s) set
     second_walk none set = refl
     second_walk (node op a b c d) set =
         rw (second_walk a set)
         (ap (λ (step : ℕ → List ℕ). union t step (walk 2 t literals (read_in_second edition a) set))
-        (λ i x. (second-filtered b (candidates edition t (axis_of c) (test_of d) x) ∙ ap (filtered 2 t literals (read_in_second edition b)) (second_candidates edition t (axis_of c) d x)) i))
+        (λ i x. (second_filtered b (candidates edition t (axis_of c) (test_of d) x) ∙ ap (filtered 2 t literals (read_in_second edition b)) (second_candidates edition t (axis_of c) d x)) i))
 
-    second-filtered : (s : Tree) (l : List ℕ) → filtered edition t literals s l ≡ filtered 2 t literals (read_in_second edition s) l
-    second-filtered none l = refl
-    second-filtered (node op a b c d) l =
-        rw (second-filtered a l)
+    second_filtered : (s : Tree) (l : List ℕ) → filtered edition t literals s l ≡ filtered 2 t literals (read_in_second edition s) l
+    second_filtered none l = refl
+    second_filtered (node op a b c d) l =
+        rw (second_filtered a l)
         (ap (λ (f : ℕ → ℕ → Bool). keep_at f 1 (filtered 2 t literals (read_in_second edition a) l))
-        (λ i y j. holds (second-value b (record { node = y; position = float j; size = float (length (filtered 2 t literals (read_in_second edition a) l)) }) i) (float j)))
+        (λ i y j. holds (second_value b (record { node = y; position = float j; size = float (length (filtered 2 t literals (read_in_second edition a) l)) }) i) (float j)))

@@ -141,7 +141,7 @@ half = of_bits binary64 0x3FE0000000000000
 -- R10 from 1, child::*[count(child::4) = 2] ; R11 from 1, child::*[0 div 0 != 0 div 0]
 -- R12 from 1, parent::*, parent::node() ; R13 turned, from 1, and turned from 8
 -- W-208: R13 turned twice, and from 1
--- W-203: every node's place on preceding of 8 (R2), on ancestor of 9 (R4) and on following_sibling of 0; on self and preceding of 10, which
+-- W-203: every node's place on preceding of 8 (R2), on ancestor of 9 (R4) and on following-sibling of 0; on self and preceding of 10, which
 -- is no row
 -- W-206: the single row; no element, beside a broken row and where a kind is 7; an element that is broken itself, that stands behind a
 -- broken row, and that is no child of the root; a text before the element and one behind it; a second element; two texts side by side;

@@ -31,7 +31,7 @@ use Rattle.survey.specs.Standing.{trail, trail_of, Goes, Reads, at_start, refusa
 use Rattle.survey.proofs.Stored.{holds_none}
 use Rattle.survey.proofs.Retrace.{byte_behind}
 use Rattle.survey.proofs.Taking.{taken_some}
-use Rattle.survey.proofs.Standing.{refilled, standing_refused, further, standing_goes, opens, standing_enters, closes, bracketed, standing-closes}
+use Rattle.survey.proofs.Standing.{refilled, standing_refused, further, standing_goes, opens, standing_enters, closes, bracketed, standing_closes}
 use Rattle.survey.proofs.Ending.{standing_ends}
 
 -- ---- tests of what is not so
@@ -101,16 +101,16 @@ unknown_refused q = refl
 module _
     {text list w : List ℕ} {s : State} (h : Standing text list w s) {t : Seen} (v : Sees text s.at s.due s.mode t) where
   -- it is the end of the text
-  pub advanced-ends :
+  pub advanced_ends :
       (r : State) → t.kind ≡ 34 → (r.ended ≡ true) × (r.fault ≡ last_fault (length text) s) → Advanced text list w s.count r
-  advanced-ends r e (d, f) =
+  advanced_ends r e (d, f) =
       has_ended text list w s.count r d (f ∙ standing_ends h (omega (arith, v.last e, v.begins))) h.size
 
   -- it is not taken
-  pub advanced-refused :
+  pub advanced_refused :
       (r : State) → (t.kind ≡ 34 → ⊥) → taken t.act s.level.kind ≡ false → (r.ended ≡ true) × (r.fault ≡ refusal t.begin)
       → Advanced text list w s.count r
-  advanced-refused r more off (d, f) = has_ended text list w s.count r d (f ∙ lost) h.size
+  advanced_refused r more off (d, f) = has_ended text list w s.count r d (f ∙ lost) h.size
     where
       lost : refusal t.begin ≡ found (form_of text) text list
       lost =
@@ -185,7 +185,7 @@ module _
     unfolding left_by parted_by
     advanced_closes r w' low outer closing ready loaded e =
         subst⁻¹ (Advanced text list w' s.count) e
-        (by (eqb t.act 20) (standing-closes h known class on closing ready loaded))
+        (by (eqb t.act 20) (standing_closes h known class on closing ready loaded))
       where
         by :
             (b : Bool) → Standing text list w' (cond b (parted_by s t low outer) (left_by s t low outer))

@@ -134,12 +134,12 @@ unknown_refused q = refl
 
 module _
     {text : List ℕ} {k at : ℕ} {due : Bool} {mode : ℕ} {s : Seen} (c : Cut text k at due) (n : Known text at due mode s) (h : s.kind < 33) where
-  not-unknown : s.kind ≡ code unknown → ⊥
+  not_unknown : s.kind ≡ code unknown → ⊥
   unfolding code
-  not-unknown e = omega arith
+  not_unknown e = omega arith
 
-  pub cut-behind : Cut text (k + 1) s.end (operator_due s.kind)
-  cut-behind = cut_next c n.stands not-unknown
+  pub cut_behind : Cut text (k + 1) s.end (operator_due s.kind)
+  cut_behind = cut_next c n.stands not_unknown
 
   pub kind-at : kind_at text k ≡ s.kind
   unfolding kind_at
@@ -148,11 +148,11 @@ module _
       ∙ sym (n.stands.kind_is ∙ (lexeme_code text s.begin due ∙ ap (λ (z : ℕ). code (class_of z)) (sym n.stands.kind_is)))
 
   -- the trail behind the token
-  pub trail-next :
+  pub trail_next :
       (l : Level) (ls : List Level) (name : ℕ) → trail_of text k ≡ trail mode l ls name
       → trail_of text (k + 1) ≡ trailed text s.kind s.act s.begin s.behind (trail mode l ls name)
-  trail-next l ls name e =
-      let p : byte_of text (suc k) ≡ s.behind = ap (byte_of text) (sym (add-one k)) ∙ (byte_behind cut-behind ∙ sym n.follows) in
+  trail_next l ls name e =
+      let p : byte_of text (suc k) ≡ s.behind = ap (byte_of text) (sym (add-one k)) ∙ (byte_behind cut_behind ∙ sym n.follows) in
       ap (trail_of text) (add-one k) ∙ (trail_more text k ∙ rw (e, kind-at, ← n.acts, cut_byte c n.stands, p))
 
 -- ---- the mode and the name before a token
@@ -196,8 +196,8 @@ module _ {text w : List ℕ} {lo hi : ℕ} {t : Trace} (r : Traced text w lo hi 
       not_last : s.kind ≡ 34 → ⊥
       not_last e = omega (arith, v.last e, v.begins, cut_inside r.cut h)
 
-      not-unknown : s.kind ≡ 33 → ⊥
-      not-unknown e =
+      not_unknown : s.kind ≡ 33 → ⊥
+      not_unknown e =
           let k = act_next t.mode r.level r.around t.name r.cut (v.unknown e) r.goes g r.trails in
           omega (arith, k.some, ap (λ (z : ℕ). act_of z t.mode) e, unknown_refused t.mode)
 
@@ -206,7 +206,7 @@ module _ {text w : List ℕ} {lo hi : ℕ} {t : Trace} (r : Traced text w lo hi 
           ⊎_elim
           (λ l. l)
           (λ l.
-          ⊎_elim (λ i. absurd (not-unknown (omega arith))) (λ i. absurd (not_last (omega (arith, v.class)))) (lt_or_ge s.kind 34))
+          ⊎_elim (λ i. absurd (not_unknown (omega arith))) (λ i. absurd (not_last (omega (arith, v.class)))) (lt_or_ge s.kind 34))
           (lt_or_ge s.kind 33)
 
 first_small : {n : ℕ} {o : Level} {os : List Level} → Smalls n (o ∷ os) → Small n o
@@ -220,7 +220,7 @@ module _ {text w : List ℕ} {lo hi : ℕ} {t : Trace} {s : Seen} (f : Follows t
   trails_on :
       trail_of text (t.count + 1)
       ≡ trailed text s.kind s.act s.begin s.behind (trail t.mode f.traced.level f.traced.around t.name)
-  trails_on = trail-next f.traced.cut f.known f.class f.traced.level f.traced.around t.name f.traced.trails
+  trails_on = trail_next f.traced.cut f.known f.class f.traced.level f.traced.around t.name f.traced.trails
 
   pub follows_taken : Taken s.act f.traced.around
   follows_taken =
@@ -255,7 +255,7 @@ module _ {text w : List ℕ} {lo hi : ℕ} {t : Trace} {s : Seen} (f : Follows t
       → l ≡ level_behind t s t.level
       → Traced text w lo hi (record { count = t.count + 1; at = s.end; due = due; mode = s.act - 1; depth = t.depth; name = name; level = l })
   traced_goes due name l a d m e = record {
-    cut = subst⁻¹ (Cut text (t.count + 1) s.end) d (cut-behind f.traced.cut f.known f.class);
+    cut = subst⁻¹ (Cut text (t.count + 1) s.end) d (cut_behind f.traced.cut f.known f.class);
     goes = f.goes;
     level = level_behind t s f.traced.level;
     around = f.traced.around;
@@ -289,7 +289,7 @@ module _ {text w : List ℕ} {lo hi : ℕ} {t : Trace} {s : Seen} (f : Follows t
       trails_on
       ∙ (trailed_opens text s.kind s.act s.begin s.behind t.mode f.traced.level f.traced.around t.name a b
       ∙ ap (λ (q : ℕ). trail q inner levels t.name) (sym m)) in
-      let cut : Cut text (t.count + 1) s.end (operator_due s.kind) = cut-behind f.traced.cut f.known f.class in
+      let cut : Cut text (t.count + 1) s.end (operator_due s.kind) = cut_behind f.traced.cut f.known f.class in
       let left = trail_is_left text (t.count + 1) mode inner levels t.name cut.count trailed-on in
       record {
         cut = subst⁻¹ (Cut text (t.count + 1) s.end) d cut;
@@ -340,7 +340,7 @@ module _ {text w : List ℕ} {lo hi : ℕ} {t : Trace} {s : Seen} (f : Follows t
       (l : Level) → s.act ≡ 20 → l ≡ fresh 9 s.behind
       → Traced text w lo hi (record { count = t.count + 1; at = s.end; due = false; mode = 0; depth = t.depth; name = t.name; level = l })
   traced_parts l a e = record {
-    cut = subst (Cut text (t.count + 1) s.end) (behind_due (omega arith) ∙ rw a) (cut-behind f.traced.cut f.known f.class);
+    cut = subst (Cut text (t.count + 1) s.end) (behind_due (omega arith) ∙ rw a) (cut_behind f.traced.cut f.known f.class);
     goes = f.goes;
     level = fresh 9 s.behind;
     around = f.traced.around;
@@ -383,12 +383,12 @@ module _ {text w : List ℕ} {lo hi : ℕ} {t : Trace} {s : Seen} (f : Follows t
           rw (top i j) (small.kind, small.rank))
           (λ _. (f.traced.kind, f.traced.rank))) in
           record {
-            cut = subst (Cut text (t.count + 1) s.end) (behind_due a ∙ lt-ltb s.act 20 b) (cut-behind f.traced.cut f.known f.class);
+            cut = subst (Cut text (t.count + 1) s.end) (behind_due a ∙ lt-ltb s.act 20 b) (cut_behind f.traced.cut f.known f.class);
             goes = f.goes;
             level = o;
             around = os;
             trails =
-                trail-next f.traced.cut f.known f.class f.traced.level (o ∷ os) t.name c
+                trail_next f.traced.cut f.known f.class f.traced.level (o ∷ os) t.name c
                 ∙ trailed_closes text s.kind s.act s.begin s.behind t.mode f.traced.level (o ∷ os) t.name a b;
             deep = level-there;
             shallow = omega (arith, f.traced.shallow);

@@ -38,8 +38,8 @@ use Rattle.survey.specs.Standing.{trail, name_at, trailed, trail_of, Goes, Small
 use Rattle.survey.specs.Standing as S
 use Rattle.survey.proofs.Stored.{stored_length, holds_opened, holds_closed, holds_top}
 use Rattle.survey.proofs.Trail.{small_kept, table_says, trailed_goes, trailed_opens, trailed_parts, trailed_closes, trail_is_left}
-use Rattle.survey.proofs.Retrace.{byte_behind, cut-behind, trail-next}
-use Rattle.survey.proofs.Taking.{act_stuck, taken_some, taken_whole, run-next, read_next}
+use Rattle.survey.proofs.Retrace.{byte_behind, cut_behind, trail_next}
+use Rattle.survey.proofs.Taking.{act_stuck, taken_some, taken_whole, run_next, read_next}
 
 -- ---- the number 0 stands at byte 0
 
@@ -140,7 +140,7 @@ module _ {text list w : List ℕ} {s : W.State} (h : Standing text list w s) whe
     stuck_next : is_stuck (run start (take (s.count + 1) (classes_of text))) ≡ not (taken (act_of kind s.mode) s.level.kind)
     unfolding next act_of
     stuck_next =
-        ap is_stuck (run-next h.cut n ∙ ap (λ (z : State). next z (class_of kind)) machine.0)
+        ap is_stuck (run_next h.cut n ∙ ap (λ (z : State). next z (class_of kind)) machine.0)
         ∙ act_stuck (pick (rows (class_of kind)) (mode_at s.mode)) s.level h.around machine.1
 
     pub standing_refused : taken (act_of kind s.mode) s.level.kind ≡ false → refusal begin ≡ found (form_of text) text list
@@ -176,7 +176,7 @@ module _ {text list w : List ℕ} {s : W.State} (h : Standing text list w s) whe
     there : place (source text list) (suc s.count) ≡ t.behind
     there =
         ap (place (source text list)) (sym (add-one s.count))
-        ∙ (sym (byte_place text list (s.count + 1)) ∙ (byte_behind (cut-behind h.cut n class) ∙ sym n.follows))
+        ∙ (sym (byte_place text list (s.count + 1)) ∙ (byte_behind (cut_behind h.cut n class) ∙ sym n.follows))
 
     -- the survey and the trail behind it
     surveyed_next :
@@ -189,7 +189,7 @@ module _ {text list w : List ℕ} {s : W.State} (h : Standing text list w s) whe
     trails_next :
         trail_of text (s.count + 1)
         ≡ trailed text t.kind t.act t.begin t.behind (trail s.mode s.level h.around s.name)
-    trails_next = trail-next h.cut n class s.level h.around s.name h.trails
+    trails_next = trail_next h.cut n class s.level h.around s.name h.trails
 
     holds_now : Holds w s.low (s.low + span) h.around
     holds_now = held text w s.count s.low (s.low + span) h.holds h.trails
@@ -206,7 +206,7 @@ module _ {text list w : List ℕ} {s : W.State} (h : Standing text list w s) whe
         let trails =
         trails_next ∙ trailed_goes text t.kind t.act t.begin t.behind s.mode s.level h.around s.name less in
         record {
-          cut = cut-behind h.cut n class;
+          cut = cut_behind h.cut n class;
           goes = goes_next;
           few = omega (arith, further);
           around = h.around;
@@ -271,7 +271,7 @@ module _ {text list w : List ℕ} {s : W.State} (h : Standing text list w s) whe
         (holds_opened w s.low low (level_past s t) h.around h.size level_small.rank lowest_fits.1
         (omega (arith, h.deep, h.most)) (omega (arith, h.deep, lowest_fits.2)) holds_now) in
         record {
-          cut = cut-behind h.cut n class;
+          cut = cut_behind h.cut n class;
           goes = goes_next;
           few = omega (arith, further);
           around = level_past s t ∷ h.around;
@@ -314,59 +314,59 @@ module _ {text list w : List ℕ} {s : W.State} (h : Standing text list w s) whe
         beyond : List Level
         beyond = someone.1
 
-        ready-holds : Holds v low (low + span) h.around
-        ready-holds = held text v s.count low (low + span) ready.holds h.trails
+        ready_holds : Holds v low (low + span) h.around
+        ready_holds = held text v s.count low (low + span) ready.holds h.trails
 
         -- the level that was loaded is the one around
-        is-around : h.around ≡ outer ∷ beyond
+        is_around : h.around ≡ outer ∷ beyond
         unfolding beyond
-        is-around =
+        is_around =
             let o : Level = someone.0 in
             let os : List Level = someone.1 in
             let deep : s.depth ≡ suc (length os) = h.deep ∙ ap length someone.2 in
             let top : level_at v (length os) ≡ o =
             holds_top v low (low + span) o os (omega (arith, ready.least)) (omega (arith, ready.most))
-            (subst (Holds v low (low + span)) someone.2 ready-holds) in
+            (subst (Holds v low (low + span)) someone.2 ready_holds) in
             let depth : s.depth - 1 ≡ length os = omega arith in
             someone.2 ∙ ap (λ (l : Level). l ∷ os) (sym (loaded ∙ (ap (level_at v) depth ∙ top)))
 
-        outer-small : Small (length text) outer
-        outer-small = first_small (subst (Smalls (length text)) is-around left_of.smalls)
+        outer_small : Small (length text) outer
+        outer_small = first_small (subst (Smalls (length text)) is_around left_of.smalls)
 
-        surveyed-around :
+        surveyed_around :
             surveyed_to text list (s.count + 1)
             ≡ survey_token (source text list) (survey_of (source text list) s (outer ∷ beyond)) s.count (class_of t.kind)
-        surveyed-around =
+        surveyed_around =
             surveyed_next
             ∙ ap (λ (ls : List Level). survey_token (source text list) (survey_of (source text list) s ls) s.count (class_of t.kind))
-            is-around
+            is_around
 
-        outer-inside : outer.m ≤ length (source text list).text
+        outer_inside : outer.m ≤ length (source text list).text
         unfolding source
-        outer-inside = outer-small.m
+        outer_inside = outer_small.m
 
-        standing-leaves : t.act < 20 → Standing text list v (left_by s t low outer)
+        standing_leaves : t.act < 20 → Standing text list v (left_by s t low outer)
         unfolding left_by
-        standing-leaves less =
+        standing_leaves less =
             let step =
             token_leaves (source text list) s.count s.level outer beyond s.sort s.name t.kind s.mode left_of.mode
-            s.fault h.sounds known.inside outer-inside (omega (arith, n.acts)) (omega (arith, n.acts)) in
+            s.fault h.sounds known.inside outer_inside (omega (arith, n.acts)) (omega (arith, n.acts)) in
             let trails =
             trails_next
             ∙ (trailed_closes text t.kind t.act t.begin t.behind s.mode s.level h.around s.name closing less
-            ∙ ap (λ (ls : List Level). trail 13 (S.outer ls) (S.others ls) s.name) is-around) in
+            ∙ ap (λ (ls : List Level). trail 13 (S.outer ls) (S.others ls) s.name) is_around) in
             record {
-              cut = cut-behind h.cut n class;
+              cut = cut_behind h.cut n class;
               goes = goes_next;
               few = omega (arith, further);
               around = beyond;
               trails = trails;
-              surveys = surveyed-around ∙ step.0;
-              deep = omega (arith, h.deep, ap length is-around);
+              surveys = surveyed_around ∙ step.0;
+              deep = omega (arith, h.deep, ap length is_around);
               shallow = omega (arith, h.shallow);
               holds =
                   refilled text v (s.count + 1) low (low + span) trails
-                  (holds_closed v low (low + span) outer beyond (subst (Holds v low (low + span)) is-around ready-holds));
+                  (holds_closed v low (low + span) outer beyond (subst (Holds v low (low + span)) is_around ready_holds));
               least = omega (arith, ready.least);
               most = omega (arith, ready.most);
               size = ready.size;
@@ -375,27 +375,27 @@ module _ {text list w : List ℕ} {s : W.State} (h : Standing text list w s) whe
                   placed_lowered _ _ _ (choose Placed (eqb (arity_in s.mode) 0) (λ _. h.placed) (λ _. placed_ends _ _ _ h.placed));
             }
 
-        standing-parts : t.act ≡ 20 → Standing text list v (parted_by s t low outer)
+        standing_parts : t.act ≡ 20 → Standing text list v (parted_by s t low outer)
         unfolding parted_by
-        standing-parts e =
+        standing_parts e =
             let step =
             rw there at
             (token_parts (source text list) s.count s.level outer beyond s.sort s.name t.kind s.mode left_of.mode
-            s.fault h.sounds known.inside outer-inside (sym n.acts ∙ e)) in
+            s.fault h.sounds known.inside outer_inside (sym n.acts ∙ e)) in
             let trails =
             trails_next
             ∙ (trailed_parts text t.kind t.act t.begin t.behind s.mode s.level h.around s.name e
-            ∙ ap (λ (ls : List Level). trail 0 (fresh 9 t.behind) ls s.name) is-around) in
+            ∙ ap (λ (ls : List Level). trail 0 (fresh 9 t.behind) ls s.name) is_around) in
             record {
-              cut = cut-behind h.cut n class;
+              cut = cut_behind h.cut n class;
               goes = goes_next;
               few = omega (arith, further);
               around = outer ∷ beyond;
               trails = trails;
-              surveys = surveyed-around ∙ step.0;
-              deep = h.deep ∙ ap length is-around;
+              surveys = surveyed_around ∙ step.0;
+              deep = h.deep ∙ ap length is_around;
               shallow = omega (arith, h.shallow);
-              holds = refilled text v (s.count + 1) low (low + span) trails (subst (Holds v low (low + span)) is-around ready-holds);
+              holds = refilled text v (s.count + 1) low (low + span) trails (subst (Holds v low (low + span)) is_around ready_holds);
               least = omega (arith, ready.least);
               most = ready.most;
               size = ready.size;
@@ -403,12 +403,12 @@ module _ {text list w : List ℕ} {s : W.State} (h : Standing text list w s) whe
               placed = placed_lowered _ _ _ (placed_ends _ _ _ h.placed);
             }
 
-        pub standing-closes : Standing text list v (cond (eqb t.act 20) (parted_by s t low outer) (left_by s t low outer))
-        standing-closes = by (eqb t.act 20) refl
+        pub standing_closes : Standing text list v (cond (eqb t.act 20) (parted_by s t low outer) (left_by s t low outer))
+        standing_closes = by (eqb t.act 20) refl
           where
             most : t.act ≤ 20
             most = omega (arith, n.acts, (table_says t.kind s.mode (omega arith) left_of.mode).most)
 
             by : (b : Bool) → eqb t.act 20 ≡ b → Standing text list v (cond b (parted_by s t low outer) (left_by s t low outer))
-            by true e = standing-parts (eqb-true t.act 20 e)
-            by false e = let other = eqb-false t.act 20 e in standing-leaves (omega (arith, most, other))
+            by true e = standing_parts (eqb-true t.act 20 e)
+            by false e = let other = eqb-false t.act 20 e in standing_leaves (omega (arith, most, other))

@@ -60,12 +60,12 @@ unpacked_packed l h =
     let f3 : eqb (w / 2 % 2) 1 ≡ l.joined = ap (λ (n : ℕ). eqb n 1) k3 ∙ bit_back l.joined in
     let f4 : eqb (w % 2) 1 ≡ l.inpath = ap (λ (n : ℕ). eqb n 1) k4 ∙ bit_back l.inpath in
     let f5 : eqb (w / 12 % 2) 1 ≡ l.andor = ap (λ (n : ℕ). eqb n 1) k5 ∙ bit_back l.andor in
-    same-level k1 k2 f3 f4 f5
+    same_level k1 k2 f3 f4 f5
   where
-    same-level :
+    same_level :
         {k r : ℕ} {j i a : Bool} → k ≡ l.kind → r ≡ l.rank → j ≡ l.joined → i ≡ l.inpath → a ≡ l.andor
         → record { kind = k; rank = r; joined = j; inpath = i; andor = a; e = l.e; g = l.g; m = l.m } ≡ l
-    same-level p q r s t = rw (p, q, r, s, t)
+    same_level p q r s t = rw (p, q, r, s, t)
 
 -- ---- the window
 

@@ -82,9 +82,9 @@ past_length (t ∷ ts) i = past_length ts (suc i) ∙ omega arith
 
 module _
     {text : List ℕ} {k i : ℕ} {due : Bool} {kind begin behind : ℕ} (c : Cut text k i due) (n : Stands text i due kind begin behind) where
-  pub run-next : run start (take (k + 1) (classes_of text)) ≡ next (run start (take k (classes_of text))) (class_of kind)
+  pub run_next : run start (take (k + 1) (classes_of text)) ≡ next (run start (take k (classes_of text))) (class_of kind)
   unfolding run
-  run-next = ap (run start) (cut_classes c n) ∙ run_append start (take k (classes_of text)) (class_of kind ∷ [])
+  run_next = ap (run start) (cut_classes c n) ∙ run_append start (take k (classes_of text)) (class_of kind ∷ [])
 
   pub read_next :
       {G : Type 0} (step : G → ℕ → Token → G) (g : G)

@@ -148,11 +148,11 @@ others_small n (one h hs) = hs
 position_fits : (names : List (List ℕ)) (w : List ℕ) → position names w ≤ length names
 unfolding position
 position_fits [] w = omega arith
-position_fits (v ∷ vs) w = by-test (same v w) (position_fits vs w)
+position_fits (v ∷ vs) w = by_test (same v w) (position_fits vs w)
   where
-    by-test : (b : Bool) → position vs w ≤ length vs → cond b 0 (suc (position vs w)) ≤ suc (length vs)
-    by-test true h = omega arith
-    by-test false h = omega arith
+    by_test : (b : Bool) → position vs w ≤ length vs → cond b 0 (suc (position vs w)) ≤ suc (length vs)
+    by_test true h = omega arith
+    by_test false h = omega arith
 
 -- what a fact of the table says
 pub record Fact (k q a : ℕ) : Type 0 where
@@ -245,24 +245,24 @@ left_step text n k q b p l ls name hk hb hp h = decide (act_of k q) (table_says 
       byte_behind = λ e. let z = name_kept text k b name (f.target_class (omega arith)) in omega (arith, z, h.byte (f.target_mode (omega arith)));
     }
 
-    kind-opened : (a : ℕ) → Fact k q a → opened_kind a name < 10
-    kind-opened a f = by-test (eqb a 15) (eqb a 16) refl
+    kind_opened : (a : ℕ) → Fact k q a → opened_kind a name < 10
+    kind_opened a f = by_test (eqb a 15) (eqb a 16) refl
       where
-        by-test : (x y : Bool) → eqb a 16 ≡ y → cond x 1 (cond y (4 + name) 2) < 10
-        by-test true y e = omega arith
-        by-test false false e = omega arith
-        by-test false true e = let c = h.function (f.call_mode (eqb→eq a 16 (rw e tt))) in omega (arith, c)
+        by_test : (x y : Bool) → eqb a 16 ≡ y → cond x 1 (cond y (4 + name) 2) < 10
+        by_test true y e = omega arith
+        by_test false false e = omega arith
+        by_test false true e = let c = h.function (f.call_mode (eqb→eq a 16 (rw e tt))) in omega (arith, c)
 
-    mode-opened : (x : Bool) → cond x 1 0 < 2
-    mode-opened true = omega arith
-    mode-opened false = omega arith
+    mode_opened : (x : Bool) → cond x 1 0 < 2
+    mode_opened true = omega arith
+    mode_opened false = omega arith
 
     opens : (a : ℕ) → Fact k q a → Left n (cond (eqb a 16) 1 0) (fresh (opened_kind a name) p) (behind ∷ ls) name
     opens a f =
-        let low : cond (eqb a 16) 1 0 < 2 = mode-opened (eqb a 16) in
+        let low : cond (eqb a 16) 1 0 < 2 = mode_opened (eqb a 16) in
         record {
           mode = omega (arith, low);
-          small = fresh_small n (opened_kind a name) p (kind-opened a f) hp;
+          small = fresh_small n (opened_kind a name) p (kind_opened a f) hp;
           smalls = one (small_kept n (group_of k) (tightness_of k) q p l hp h.small) h.smalls;
           function = λ e. absurd (omega (arith, low, e));
           byte = λ e. absurd (omega (arith, low, e));

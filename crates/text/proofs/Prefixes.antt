@@ -225,26 +225,26 @@ module _ (w x z : List ℕ) where
     punctuation_same due =
         branch (Stays w) (eqb (pair (w ++ x)) (code unknown)) (eqb (pair (spaced w z)) (code unknown))
         (λ f g. ⊎_elim
-        (λ l. ap (λ (n : ℕ). eqb n (code unknown)) (pairs-same l))
-        (λ l. alone (omega arith) ∙ sym (not-pair (eqb (pair (w ++ x)) (code unknown)) (λ e. omega (arith, (g e).1))))
+        (λ l. ap (λ (n : ℕ). eqb n (code unknown)) (pairs_same l))
+        (λ l. alone (omega arith) ∙ sym (not_pair (eqb (pair (w ++ x)) (code unknown)) (λ e. omega (arith, (g e).1))))
         (lt_or_ge (i + 1) (length w)))
         (λ _ _. ap (λ (b : ℕ). token (mark_class b due) (i + 1)) (byte_same i in-w))
-        (λ _ k. ap (λ (n : ℕ). token n (i + 2)) (pairs-same (omega (arith, k.1))))
+        (λ _ k. ap (λ (n : ℕ). token n (i + 2)) (pairs_same (omega (arith, k.1))))
       where
         pair : List ℕ → ℕ
         pair text = pair_class (byte text i) (byte text (i + 1))
 
-        pairs-same : i + 1 < length w → pair (spaced w z) ≡ pair (w ++ x)
-        pairs-same l = ap₂ pair_class (byte_same i in-w) (byte_same (i + 1) l)
+        pairs_same : i + 1 < length w → pair (spaced w z) ≡ pair (w ++ x)
+        pairs_same l = ap₂ pair_class (byte_same i in-w) (byte_same (i + 1) l)
 
         alone : i + 1 ≡ length w → eqb (pair (spaced w z)) (code unknown) ≡ true
         alone e =
             eq-eqb (pair (spaced w z)) (code unknown)
             (ap (pair_class (byte (spaced w z) i)) (byte_space (i + 1) e) ∙ pair_space (byte (spaced w z) i))
 
-        not-pair : (b : Bool) → (b ≡ false → ⊥) → b ≡ true
-        not-pair true f = refl
-        not-pair false f = absurd (f refl)
+        not_pair : (b : Bool) → (b ≡ false → ⊥) → b ≡ true
+        not_pair true f = refl
+        not_pair false f = absurd (f refl)
 
     -- what follows a name makes it what it was
     abbrev pub Followed : Bool → Type 0

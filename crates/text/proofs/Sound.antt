@@ -437,11 +437,11 @@ every_row_is_fine unknown = tt
 picked : (t : Token) (l : List Row) → AllFine t l → (m : Mode) → Fine t (pick l m) m
 unfolding pick done inner
 picked t [] f m around p h = tt
-picked t (on ms c ∷ rest) f m around p h = by-test (has ms m) refl (picked t rest f.1 m around p h)
+picked t (on ms c ∷ rest) f m around p h = by_test (has ms m) refl (picked t rest f.1 m around p h)
   where
-    by-test : (b : Bool) → has ms m ≡ b → Read (done (pick rest m) around) (p ++ (t ∷ [])) → Read (done (cond b c (pick rest m)) around) (p ++ (t ∷ []))
-    by-test true e r = each (Fine t c) ms m f.0 (subst T (sym e) tt) around p h
-    by-test false e r = r
+    by_test : (b : Bool) → has ms m ≡ b → Read (done (pick rest m) around) (p ++ (t ∷ [])) → Read (done (cond b c (pick rest m)) around) (p ++ (t ∷ []))
+    by_test true e r = each (Fine t c) ms m f.0 (subst T (sym e) tt) around p h
+    by_test false e r = r
 
 reads_on : (s : State) (p ts : List Token) → Read s p → Read (run s ts) (p ++ ts)
 unfolding run next

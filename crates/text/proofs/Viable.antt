@@ -104,34 +104,34 @@ viable_not_stuck ts (rest, d) = stays (run start ts) rest (subst (λ s. T (accep
 readable_fits : (s : State) (ts : List Token) → readable s ts ≤ length ts
 unfolding readable
 readable_fits s [] = omega arith
-readable_fits s (t ∷ ts) = by-test (is_stuck (next s t)) (readable_fits (next s t) ts)
+readable_fits s (t ∷ ts) = by_test (is_stuck (next s t)) (readable_fits (next s t) ts)
   where
-    by-test : (b : Bool) → readable (next s t) ts ≤ length ts → cond b 0 (suc (readable (next s t) ts)) ≤ suc (length ts)
-    by-test true h = omega arith
-    by-test false h = omega arith
+    by_test : (b : Bool) → readable (next s t) ts ≤ length ts → cond b 0 (suc (readable (next s t) ts)) ≤ suc (length ts)
+    by_test true h = omega arith
+    by_test false h = omega arith
 
 readable_alive : (s : State) (ts : List Token) → is_stuck s ≡ false → is_stuck (run s (take (readable s ts) ts)) ≡ false
 unfolding readable run
 readable_alive s [] e = e
-readable_alive s (t ∷ ts) e = by-test (is_stuck (next s t)) refl (readable_alive (next s t) ts)
+readable_alive s (t ∷ ts) e = by_test (is_stuck (next s t)) refl (readable_alive (next s t) ts)
   where
-    by-test :
+    by_test :
         (b : Bool) → is_stuck (next s t) ≡ b → (is_stuck (next s t) ≡ false → is_stuck (run (next s t) (take (readable (next s t) ts) ts)) ≡ false)
         → is_stuck (run s (take (cond b 0 (suc (readable (next s t) ts))) (t ∷ ts))) ≡ false
-    by-test true h f = e
-    by-test false h f = f h
+    by_test true h f = e
+    by_test false h f = f h
 
 readable_stops : (s : State) (ts : List Token) → readable s ts < length ts → is_stuck (run s (take (suc (readable s ts)) ts)) ≡ true
 unfolding readable run
 readable_stops s [] h = absurd (omega arith)
-readable_stops s (t ∷ ts) h = by-test (is_stuck (next s t)) refl h (readable_stops (next s t) ts)
+readable_stops s (t ∷ ts) h = by_test (is_stuck (next s t)) refl h (readable_stops (next s t) ts)
   where
-    by-test :
+    by_test :
         (b : Bool) → is_stuck (next s t) ≡ b → cond b 0 (suc (readable (next s t) ts)) < suc (length ts)
         → (readable (next s t) ts < length ts → is_stuck (run (next s t) (take (suc (readable (next s t) ts)) ts)) ≡ true)
         → is_stuck (run s (take (suc (cond b 0 (suc (readable (next s t) ts)))) (t ∷ ts))) ≡ true
-    by-test true e h f = e
-    by-test false e h f = f (omega arith)
+    by_test true e h f = e
+    by_test false e h f = f (omega arith)
 
 -- the machine stops at the place of the refusal
 pub machine_stops : (ts : List Token) → Longest ts (readable start ts)

@@ -175,10 +175,10 @@ module _ (s : Source) (L : List Float) where
       → Walk s L 10 g g2 (part chain t i x blank y)
   unfolding held path_from has M.number
   next_step t effect h-reads moves g g1 g2 i j x y wx wy l deep fs p before b c =
-      behind-left (wx l deep fs p before b (clean_first s L chain refl t i x y l c))
+      behind_left (wx l deep fs p before b (clean_first s L chain refl t i x y l c))
     where
-      behind-left : Walked s L 10 l deep fs p before x g1 → Walked s L 10 l deep fs p before (part chain t i x blank y) g2
-      behind-left v =
+      behind_left : Walked s L 10 l deep fs p before x g1 → Walked s L 10 l deep fs p before (part chain t i x blank y) g2
+      behind_left v =
           let now : compose_token s g1 j t ≡ behind M.step 1 (distinct l (values s x)) deep fs p (descended t (held s L before x)) =
           h-reads g1 j v.had ∙ moves (distinct l (values s x)) deep fs p (held s L before x) (rest 10 g1) v.settles in
           let w : Walked s L 10 (distinct l (values s x)) deep fs p (descended t (held s L before x)) y g2 =
@@ -223,20 +223,20 @@ module _ (s : Source) (L : List Float) where
   unfolding may_fill strength_of
   bracketed g g1 i j x w l deep fs p e enough c = ended (w l deep (frame 25 (link_of p) 0 0 0 0) fs (emptied p) opened c)
     where
-      same-paths-in : paths_in (frame 25 (link_of p) 0 0 0 0 ∷ fs) ≡ paths_in fs
-      same-paths-in = no_path 25 (link_of p) 0 0 0 0 fs refl
+      same_paths_in : paths_in (frame 25 (link_of p) 0 0 0 0 ∷ fs) ≡ paths_in fs
+      same_paths_in = no_path 25 (link_of p) 0 0 0 0 fs refl
 
       opened : Due 1 l deep (frame 25 (link_of p) 0 0 0 0) fs (emptied p) (compose_token s g i '[')
       opened =
           subst⁻¹ (Due 1 l deep (frame 25 (link_of p) 0 0 0 0) fs (emptied p))
           (ap (λ (o : Draft). compose_token s o i '[') e ∙ square_open s l deep fs p i)
-          (due at_operand refl (le_refl 0) (subst⁻¹ (λ (n : ℕ). n ≤ deep) same-paths-in enough))
+          (due at_operand refl (le_refl 0) (subst⁻¹ (λ (n : ℕ). n ≤ deep) same_paths_in enough))
 
       ended : Whole s L 1 l deep (frame 25 (link_of p) 0 0 0 0) fs (emptied p) x g1
           → compose_token s g1 j ']' ≡ behind_it s L l deep fs x (desk fs (squared p (in_hand s L x p)))
       ended v =
           held_in close_square ']' (square_read_lem s) l deep (frame 25 (link_of p) 0 0 0 0) fs (emptied p) x g1 j refl v
-          ∙ same_draft M.part 1 refl (ap (λ (n : ℕ). max deep (n + depth (held s L none x))) same-paths-in)
+          ∙ same_draft M.part 1 refl (ap (λ (n : ℕ). max deep (n + depth (held s L none x))) same_paths_in)
           (square_closes x fs p v.top v.kept)
 
   -- predicates, one by one
@@ -271,8 +271,8 @@ module _ (s : Source) (L : List Float) where
       inner : List Frame
       inner = step_frame q (axis_of s a) (test_of s t) ∷ fs
 
-      same-values : values s a ++ (values s t ++ values s x) ≡ values s x
-      same-values = rw (wa.0, wt.0)
+      same_values : values s a ++ (values s t ++ values s x) ≡ values s x
+      same_values = rw (wa.0, wt.0)
 
       ended :
           Testing (mode_in g1) × (path_from 22 g1 ≡ draft (mode_in g1) (axis_of s a) l (deeper deep fs before) (desk fs q))
@@ -288,7 +288,7 @@ module _ (s : Source) (L : List Float) where
           let filtered : g3 ≡ behind M.part 1 (distinct l (values s x)) (deeper deep fs before) inner q (held s L none x) =
           wx l (deeper deep fs before) inner q none begun-so enough (record {
             faultless = third_none s step unknown i a t x c.faultless;
-            within = subst (λ (vs : List Float). Front (distinct l vs) L) same-values c.within;
+            within = subst (λ (vs : List Float). Front (distinct l vs) L) same_values c.within;
           }) in
           let r = step_ends (axis_of s a) (test_of s t) (distinct l (values s x)) deep fs p before (held s L none x) g3 b.below filtered in
           record {
@@ -296,7 +296,7 @@ module _ (s : Source) (L : List Float) where
             settles =
                 r.1
                 ∙ ap (λ (vs : List Float). behind M.part 1 (distinct l vs) deep fs p
-                (node R.step before (held s L none x) (axis_of s a) (test_of s t))) (sym same-values);
+                (node R.step before (held s L none x) (axis_of s a) (test_of s t))) (sym same_values);
           }
 
   -- ---- primary expressions

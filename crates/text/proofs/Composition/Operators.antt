@@ -47,25 +47,25 @@ module _ (s : Source) (L : List Float) where
       (tells-truth : (i : ℕ) (x y : Syntax) → own s binary tok i x y ≡ [] → sort s x ≡ Truth → operator_sort tok ≡ Truth)
     where
       -- a construct's tree as an operand, its sort then, and the pen that has it in hand
-      abbrev operandTree : Syntax → Tree
-      operandTree x = operand_of tok (sort s x) (held s L none x)
+      abbrev operand_tree : Syntax → Tree
+      operand_tree x = operand_of tok (sort s x) (held s L none x)
 
-      abbrev operandSort : Syntax → Sort
-      operandSort x = cond (leb k 2) (true_sort (sort s x)) (sort s x)
+      abbrev operand_sort : Syntax → Sort
+      operand_sort x = cond (leb k 2) (true_sort (sort s x)) (sort s x)
 
       abbrev left : Syntax → Pen → Pen
-      left x p = after (operandTree x) (operandSort x) p
+      left x p = after (operand_tree x) (operand_sort x) p
 
       -- the frame of the operator behind its left operand
       abbrev waiting : Syntax → Pen → Frame
       waiting x p = frame (code (operation tok)) (link_of (left x p)) 0 0 0 0
 
-      abbrev joinedTree : Syntax → Syntax → Tree
-      joinedTree x y = node (operation tok) (operandTree x) (operandTree y) 0 0
+      abbrev joined_tree : Syntax → Syntax → Tree
+      joined_tree x y = node (operation tok) (operand_tree x) (operand_tree y) 0 0
 
-      wanted-after : (x : Syntax) (p : Pen) → wanted k (in_hand s L x p) ≡ left x p
+      wanted_after : (x : Syntax) (p : Pen) → wanted k (in_hand s L x p) ≡ left x p
       unfolding operand_of
-      wanted-after x p = rw tight (by (leb k 2))
+      wanted_after x p = rw tight (by (leb k 2))
         where
           by :
               (b : Bool)
@@ -74,9 +74,9 @@ module _ (s : Source) (L : List Float) where
           by true = truthful_after (held s L none x) (sort s x) p
           by false = refl
 
-      operand-depth : (x : Syntax) → depth (operandTree x) ≡ depth (held s L none x)
+      operand_depth : (x : Syntax) → depth (operand_tree x) ≡ depth (held s L none x)
       unfolding operand_of
-      operand-depth x = by (leb (tightness tok) 2)
+      operand_depth x = by (leb (tightness tok) 2)
         where
           by : (b : Bool) → depth (cond b (as_truth (sort s x) (held s L none x)) (held s L none x)) ≡ depth (held s L none x)
           by true = truth_depth (sort s x) (held s L none x)
@@ -97,38 +97,38 @@ module _ (s : Source) (L : List Float) where
           (λ (q : Pen).
           draft operand 1 (distinct l (values s x)) (deeper deep (fr ∷ fs) (held s L none x))
           (desk (frame (code (operation tok)) (link_of q) 0 0 0 0 ∷ w.top ∷ fs) (emptied q)))
-          (wanted-after x p))
+          (wanted_after x p))
 
-      operator-row :
+      operator_row :
           (x y : Syntax) (p : Pen) (top : Frame) → Same (sort s y) (waiting x p) top
-          → row_of top (in_hand s L y (emptied (left x p))) ≡ after (joinedTree x y) (operator_sort tok) p
-      operator-row x y p top kept =
+          → row_of top (in_hand s L y (emptied (left x p))) ≡ after (joined_tree x y) (operator_sort tok) p
+      operator_row x y p top kept =
           ap (λ (h : Frame). row_of h (in_hand s L y (emptied (left x p)))) (mark kept).1
           ∙ (row_is (link_of (left x p)) (mark kept).0 (in_hand s L y (emptied (left x p)))
           ∙ (ap (λ (r : Pen). put (code (operation tok)) (link_of (left x p)) (link_of r) 0 0 (operator_sort tok) r)
-          (wanted-after y (emptied (left x p)) ∙ after_emptied (operandTree y) (operandSort y) (left x p))
-          ∙ puts (operation tok) (operandTree x) (operandTree y) 0 0 (operandSort x) (operandSort y) (operator_sort tok) p plain))
+          (wanted_after y (emptied (left x p)) ∙ after_emptied (operand_tree y) (operand_sort y) (left x p))
+          ∙ puts (operation tok) (operand_tree x) (operand_tree y) 0 0 (operand_sort x) (operand_sort y) (operator_sort tok) p plain))
 
-      operator-fills : (a t : ℕ) → may_fill k (frame (code (operation tok)) a 0 0 0 t) ≡ true
+      operator_fills : (a t : ℕ) → may_fill k (frame (code (operation tok)) a 0 0 0 t) ≡ true
       unfolding may_fill
-      operator-fills a t = rw (binds, le-leb k k (le_refl k))
+      operator_fills a t = rw (binds, le-leb k k (le_refl k))
 
-      operator-loose : (a : ℕ) → may_fill f (frame (code (operation tok)) a 0 0 0 0) ≡ false
+      operator_loose : (a : ℕ) → may_fill f (frame (code (operation tok)) a 0 0 0 0) ≡ false
       unfolding may_fill
-      operator-loose a = rw (binds, loose)
+      operator_loose a = rw (binds, loose)
 
-      operator-paths :
+      operator_paths :
           (x : Syntax) (p : Pen) (fr top : Frame) (fs : List Frame) {u : Sort} → Same u fr top
           → paths_in (waiting x p ∷ top ∷ fs) ≡ paths_in (fr ∷ fs)
-      operator-paths x p fr top fs kept = no_path (code (operation tok)) (link_of (left x p)) 0 0 0 0 (top ∷ fs) pathless ∙ same_paths fs kept
+      operator_paths x p fr top fs kept = no_path (code (operation tok)) (link_of (left x p)) 0 0 0 0 (top ∷ fs) pathless ∙ same_paths fs kept
 
-      operator-deep :
+      operator_deep :
           (deep : ℕ) (p : Pen) (fr top : Frame) (fs : List Frame) {u : Sort} (x y : Syntax) → Same u fr top
           → deeper (deeper deep (fr ∷ fs) (held s L none x)) (waiting x p ∷ top ∷ fs) (held s L none y)
-          ≡ deeper deep (fr ∷ fs) (joinedTree x y)
+          ≡ deeper deep (fr ∷ fs) (joined_tree x y)
       unfolding depth R.is_path
-      operator-deep deep p fr top fs x y kept =
-          rw (operator-paths x p fr top fs kept, operand-depth x, operand-depth y, pathless) (omega arith)
+      operator_deep deep p fr top fs x y kept =
+          rw (operator_paths x p fr top fs kept, operand_depth x, operand_depth y, pathless) (omega arith)
 
       joined :
           {l : List Float} {deep : ℕ} {fr : Frame} {fs : List Frame} {p : Pen} {x y : Syntax} {g1 g2 : Draft} (i : ℕ)
@@ -144,10 +144,10 @@ module _ (s : Source) (L : List Float) where
         ready = w.ready;
         settles =
             loosened s L k m below w
-            ∙ same_draft M.part 1 (sym (two_values s L binary refl tok i x y l)) (operator-deep deep p fr v.top fs x y v.kept)
+            ∙ same_draft M.part 1 (sym (two_values s L binary refl tok i x y l)) (operator_deep deep p fr v.top fs x y v.kept)
             (fills k w.top (v.top ∷ fs) (in_hand s L y (emptied (left x p)))
-            (same_fills k w.kept ∙ operator-fills (link_of (left x p)) 0)
-            ∙ ap (settle k (v.top ∷ fs)) (operator-row x y p w.top w.kept));
+            (same_fills k w.kept ∙ operator_fills (link_of (left x p)) 0)
+            ∙ ap (settle k (v.top ∷ fs)) (operator_row x y p w.top w.kept));
       }
         where
           known_so : (b : Bool) → true_sort (cond b Numeral Truth) ≡ Truth
@@ -158,18 +158,18 @@ module _ (s : Source) (L : List Float) where
           (g g1 g2 : Draft) (i j : ℕ) (x y : Syntax) → Expression s L k k g g1 x → Expression s L f m (compose_token s g1 j tok) g2 y
           → Expression s L k k g g2 (part binary tok i x blank y)
       joins g g1 g2 i j x y wx wy l deep fr fs p (due b lo op dp) c =
-          behind-left (wx l deep fr fs p (due b lo op dp) (clean_first s L binary refl tok i x y l c))
+          behind_left (wx l deep fr fs p (due b lo op dp) (clean_first s L binary refl tok i x y l c))
         where
-          behind-left : Whole s L k l deep fr fs p x g1 → Whole s L k l deep fr fs p (part binary tok i x blank y) g2
-          behind-left v =
+          behind_left : Whole s L k l deep fr fs p x g1 → Whole s L k l deep fr fs p (part binary tok i x blank y) g2
+          behind_left v =
               let deep1 : ℕ = deeper deep (fr ∷ fs) (held s L none x) in
-              let paths-same : paths_in (waiting x p ∷ v.top ∷ fs) ≡ paths_in (fr ∷ fs) = operator-paths x p fr v.top fs v.kept in
+              let paths-same : paths_in (waiting x p ∷ v.top ∷ fs) ≡ paths_in (fr ∷ fs) = operator_paths x p fr v.top fs v.kept in
               let enough : paths_in (waiting x p ∷ v.top ∷ fs) ≤ deep1 = omega arith in
               joined i v
               (wy (distinct l (values s x)) deep1 (waiting x p) (v.top ∷ fs) (emptied (left x p))
               (subst⁻¹ (Due f (distinct l (values s x)) deep1 (waiting x p) (v.top ∷ fs) (emptied (left x p)))
               (operator-read l deep fr fs p x g1 j lo v)
-              (due at_operand (operator-loose (link_of (left x p))) (le_refl 0) enough))
+              (due at_operand (operator_loose (link_of (left x p))) (le_refl 0) enough))
               (clean_second s L binary refl tok i x y l c))
               (own_none s binary tok i x blank y c.faultless)
 

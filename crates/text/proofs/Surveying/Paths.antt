@@ -20,7 +20,7 @@ use Rattle.text.specs.Survey.{urgency, worst, noted, end_faults, level_sort, Sur
 use Rattle.text.proofs.Machine.{each}
 use Rattle.text.proofs.Surveying.Urgent.{max_again, maxima, mark, noted_mark, worst_in, worst_parts, worst_blank, leaf_finds, blank_finds, quiet_worst, quiet_finds, unheld_worst}
 use Rattle.text.proofs.Surveying.Seen.{or_false, or_true, Low, low, Seen, behind}
-use Rattle.text.proofs.Surveying.Promises.{Before, Whole, Wholly, Due, Operand, Exact, Exactly, Primary, Primarily, Walked, Walks, Specified, Specifies, Tested, Tests, Filters, Filtered, Predicated, Reads, read_so, read_two, read_three, before, whole, due, exact, primary, stepping-on, walked, specified, testing_on, tested, following, in_path, of_step_lem, of-operand, pathed, path_sort, Stepping, Testing, Following, InPath}
+use Rattle.text.proofs.Surveying.Promises.{Before, Whole, Wholly, Due, Operand, Exact, Exactly, Primary, Primarily, Walked, Walks, Specified, Specifies, Tested, Tests, Filters, Filtered, Predicated, Reads, read_so, read_two, read_three, before, whole, due, exact, primary, stepping_on, walked, specified, testing_on, tested, following, in_path, of_step_lem, of_operand, pathed, path_sort, Stepping, Testing, Following, InPath}
 
 module _ (s : Source) where
   -- ---- steps
@@ -43,12 +43,12 @@ module _ (s : Source) where
       (k : Kind) (t : Token) → StepRead stepping t M.whole k → (g : Survey) (i : ℕ) → Stepping g
       → Walks s g (part k t i blank blank blank) (survey_token s g i t)
   unfolding has number
-  point k t reads_so g i (stepping-on {m = m} {l = l} {ls = ls} {v = v} {n = n} {found = found} e h) =
+  point k t reads_so g i (stepping_on {m = m} {l = l} {ls = ls} {v = v} {n = n} {found = found} e h) =
       rw (reads_so m l ls v n found i e) (walked {m' = M.whole} tt (λ q. q) (leaf_finds s k t i found))
 
   pub with_at : (g : Survey) (i : ℕ) → Stepping g → Specifies s g (part K.attribute at i blank blank blank) (survey_token s g i at)
   unfolding has number survey_token own rows
-  with_at g i (stepping-on {m = m} {l = l} {ls = ls} {v = v} {n = n} {found = found} e h) =
+  with_at g i (stepping_on {m = m} {l = l} {ls = ls} {v = v} {n = n} {found = found} e h) =
       rw (step_read_lem stepping at M.test K.attribute (λ y i. refl) refl m l ls v n found i e)
       (specified {m' = M.test} tt refl refl (leaf_finds s K.attribute at i found))
 
@@ -56,7 +56,7 @@ module _ (s : Source) where
       (g : Survey) (i : ℕ) → Stepping g
       → Specifies s g (part K.axis AxisName i blank blank blank) (read_two s g i AxisName '::')
   unfolding has number survey_token own rows step_read pick after worst
-  with_axis_lem g i (stepping-on {m = m} {l = l} {ls = ls} {v = v} {n = n} {found = found} e h) =
+  with_axis_lem g i (stepping_on {m = m} {l = l} {ls = ls} {v = v} {n = n} {found = found} e h) =
       subst⁻¹
       (λ (o : Survey). Specified s (pathed m l) ls (path_sort m v) found (part K.axis AxisName i blank blank blank) (survey_token s o (suc i) '::'))
       (step_read_lem stepping AxisName M.axis K.axis (λ y i. refl) refl m l ls v n found i e)
@@ -68,7 +68,7 @@ module _ (s : Source) where
   stepping_tests m e = each (λ m. T (has testing m)) stepping m (tt, (tt, (tt, (tt, (tt, tt))))) e
 
   pub without_axis : (g : Survey) (i : ℕ) → Stepping g → Specifies s g blank g
-  without_axis g i (stepping-on {m = m} {found = found} e h) = specified (stepping_tests m e) refl refl (blank_finds s found)
+  without_axis g i (stepping_on {m = m} {found = found} e h) = specified (stepping_tests m e) refl refl (blank_finds s found)
 
   pub by_name : (g : Survey) (i : ℕ) → Testing g → Tests s g (part K.named NameTest i blank blank blank) (survey_token s g i NameTest)
   unfolding survey_token own rows
@@ -153,7 +153,7 @@ module _ (s : Source) where
       → Testing g1
       × ((g2 : Survey) (k : ℕ) (t : Syntax) → Tests s g1 t g2
       → InPath g2 × ((g3 : Survey) (n : ℕ) (p : Syntax) → Filters s g2 p g3 → Walks s g (part K.step unknown i a t p) g3)))
-  full_step g i (stepping-on e h) = (stepping-on e h, (λ g1 j a w. step_specified i h w))
+  full_step g i (stepping_on e h) = (stepping_on e h, (λ g1 j a w. step_specified i h w))
 
   -- ---- paths
 
@@ -198,7 +198,7 @@ module _ (s : Source) where
       → Walked s continuing l ls v found x g1 → Linked t l ls v found i x (survey_token s g1 j t)
   unfolding has number
   linked {l = l} {ls = ls} t leads i j h (walked {m' = m'} {v' = v'} {n' = n'} {found' = found'} e k c) =
-      rw (goes_on t leads m' l ls v' n' found' j e h) (stepping-on {m = step} tt h, (λ g2 n y w. chained k c w))
+      rw (goes_on t leads m' l ls v' n' found' j e h) (stepping_on {m = step} tt h, (λ g2 n y w. chained k c w))
 
   pub next_step :
       (t : Token) → LeadsOn t → (g : Survey) (i : ℕ) → Stepping g
@@ -206,7 +206,7 @@ module _ (s : Source) where
       × ((g1 : Survey) (j : ℕ) (x : Syntax) → Walks s g x g1
       → Stepping (survey_token s g1 j t)
       × ((g2 : Survey) (n : ℕ) (y : Syntax) → Walks s (survey_token s g1 j t) y g2 → Walks s g (part K.chain t i x blank y) g2))
-  next_step t leads g i (stepping-on e h) = (stepping-on e h, (λ g1 j x w. linked t leads i j h w))
+  next_step t leads g i (stepping_on e h) = (stepping_on e h, (λ g1 j x w. linked t leads i j h w))
 
   begin_steps : (m : Mode) → T (has beginning m) → T (has stepping m)
   unfolding has number
@@ -245,7 +245,7 @@ module _ (s : Source) where
       → Stepping g × ((g' : Survey) (j : ℕ) (x : Syntax) → Walks s g x g' → Exactly s g i (part K.relative unknown i blank blank x) g')
   unfolding sort own
   location g i (due {m = m} {l = l} {ls = ls} {v = v} {found = found} e h) = (
-    stepping-on (begin_steps m e) (ap (λ (o : Level). o.inpath) (pathed_begun m l e)),
+    stepping_on (begin_steps m e) (ap (λ (o : Level). o.inpath) (pathed_begun m l e)),
     (λ g' j x w. as_path_lem K.relative unknown refl refl (rw (pathed_begun m l e, sort_begun m v e) at w)),
   )
 
@@ -277,7 +277,7 @@ module _ (s : Source) where
   unfolding sort own
   from_root t m' reads_so steps inside g i (due {m = m} {l = l} {ls = ls} {v = v} {n = n} {found = found} e h) =
       rw (reads_so m l ls v n found i e) (
-        stepping-on {m = m'} steps (ap (λ (b : Bool). (cond b (path_begun (path_begun l)) (path_begun l)).inpath) inside),
+        stepping_on {m = m'} steps (ap (λ (b : Bool). (cond b (path_begun (path_begun l)) (path_begun l)).inpath) inside),
         (λ g' j x w. as_path_lem K.absolute t refl refl (rw inside at w)),
       )
 
@@ -315,7 +315,7 @@ module _ (s : Source) where
       → Primary s l ls found i x g1 → Onward t l ls found i x (survey_token s g1 j t)
   unfolding has number
   leading {l = l} {ls = ls} t leads j h (primary {d = d} {v' = v'} {n' = n'} {found' = found'} c q w) =
-      rw (leads M.part (behind d false l.m l) ls v' n' found' j tt) (stepping-on {m = step} tt refl, (λ g2 n y u. led_on h w.finds u))
+      rw (leads M.part (behind d false l.m l) ls v' n' found' j tt) (stepping_on {m = step} tt refl, (λ g2 n y u. led_on h w.finds u))
 
   pub leads_on :
       (t : Token) → LeadsOn t → (g : Survey) (i : ℕ) → Due s i g
@@ -386,7 +386,7 @@ module _ (s : Source) where
   operand_closed {l = l} {ls = ls} {found = found} {p = p} {x = x} j (whole {m' = m'} {l' = l'} {v' = v'} {n' = n'} {found' = found'} e b w) =
       subst⁻¹ (Filtered s l ls found x false)
       (square_read_lem m' l' (joined_on l ∷ ls) v' n' found' j e ∙ closed 2 p (joined_on l) ls (noted s true l.m found) x m' l' v' n' found' w)
-      (of-operand refl)
+      (of_operand refl)
 
   abbrev Bracketed : Level → List Level → ℕ → ℕ → Bool → Survey → Type 0
   Bracketed l ls found i b o =
@@ -446,7 +446,7 @@ module _ (s : Source) where
       → f1 ≡ max (worst_in s x) found → Filtered s (behind d false l.m l) ls f1 y false g2
       → Primary s l ls found i (part K.filter unknown i x blank y) g2
   unfolding own sort
-  filtered_on {l = l} h c (of-operand f) =
+  filtered_on {l = l} h c (of_operand f) =
       primary {d = true} {v' = Nodes} true (sym (or_true l.joined)) (beyond K.filter unknown refl refl h c f)
 
   filtered_by :

@@ -59,11 +59,11 @@ module _ (s : Source) where
   left_grows : (m' : Mode) (arity : ℕ) (y : Survey) → found_in y ≤ found_in (left m' arity s y)
   unfolding left
   left_grows m' arity (survey m l [] v n found) = omega arith
-  left_grows m' arity (survey m l (o ∷ ls) v n found) = le_trans (by-arity (eqb arity 0)) (noted_grows _ _ _)
+  left_grows m' arity (survey m l (o ∷ ls) v n found) = le_trans (by_arity (eqb arity 0)) (noted_grows _ _ _)
     where
-      by-arity : (b : Bool) → found ≤ cond b found (end_faults (noted s) l v found)
-      by-arity true = omega arith
-      by-arity false = end_grows l v found
+      by_arity : (b : Bool) → found ≤ cond b found (end_faults (noted s) l v found)
+      by_arity true = omega arith
+      by_arity false = end_grows l v found
 
   token_grows : (y : Survey) (i : ℕ) (t : Token) → found_in y ≤ found_in (survey_token s y i t)
   unfolding survey_token step_read operand_read slash_read bracket_read opening_read closing_read comma_read bar_read operator_read minus_read string_read name_read sign_faults

@@ -31,7 +31,7 @@ path_sort m v = cond (begins m) Nodes v
 
 -- a step is due
 pub data Stepping : Survey → Type 0 where
-  stepping-on :
+  stepping_on :
       {m : Mode} {l : Level} {ls : List Level} {v : Sort} {n found : ℕ} → T (has stepping m) → (pathed m l).inpath ≡ true
       → Stepping (survey m l ls v n found)
 
@@ -155,7 +155,7 @@ module _ (s : Source) where
   -- a predicate was read, in a path or behind another operand, whose own fault is then noted
   pub data Filtered (l : Level) (ls : List Level) (found : ℕ) (x : Syntax) : Bool → Survey → Type 0 where
     of_step_lem : {n' found' : ℕ} → found' ≡ max (worst_in s x) found → Filtered l ls found x true (survey M.part l ls Nodes n' found')
-    of-operand :
+    of_operand :
         {n' found' : ℕ} → found' ≡ max (worst_in s x) (noted s true l.m found)
         → Filtered l ls found x false (survey M.part (joined_on l) ls Nodes n' found')
 

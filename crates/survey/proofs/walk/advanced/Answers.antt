@@ -7,7 +7,7 @@ use lib.ListN.{length}
 use Rattle.survey.proofs.Stored.{stored_length}
 use Rattle.survey.proofs.Taking.{taken_some}
 use Rattle.survey.proofs.Standing.{left_of}
-use Rattle.survey.proofs.Advancing.{advanced-ends, advanced-refused, seen_further, seen_reads, seen_opens, seen_closes, seen_bracketed, advanced_goes, advanced_enters, advanced_closes}
+use Rattle.survey.proofs.Advancing.{advanced_ends, advanced_refused, seen_further, seen_reads, seen_opens, seen_closes, seen_bracketed, advanced_goes, advanced_enters, advanced_closes}
 use Rattle.survey.proofs.walk.advanced.Goals as goal
 
 pub look-t-requires : goal.look-t-requires
@@ -20,7 +20,7 @@ pub returns-then-kind-eq34 : goal.returns-then-kind-eq34
 returns-then-kind-eq34 c =
     let h = c.requires.1 in
     let v = c.look-t.ensures in
-    advanced-ends h v c.finished.result c.if-kind-eq34.true c.finished.ensures
+    advanced_ends h v c.finished.result c.if-kind-eq34.true c.finished.ensures
 
 pub is_taken-requires : goal.is_taken-requires
 is_taken-requires c = tt
@@ -32,7 +32,7 @@ pub returns-then-not-is_taken : goal.returns-then-not-is_taken
 returns-then-not-is_taken c =
     let h = c.requires.1 in
     let v = c.look-t.ensures in
-    advanced-refused h v c.refused.result c.if-kind-eq34.false
+    advanced_refused h v c.refused.result c.if-kind-eq34.false
     (sym c.is_taken.ensures ∙ c.if-not-is_taken.true) c.refused.ensures
 
 pub own_fault-own-requires : goal.own_fault-own-requires
