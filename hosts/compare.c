@@ -1,8 +1,10 @@
 /* compare.c: holds the archive to the independent reference on random inputs.
  *
- *   compare SEED COUNT [FIRST]   COUNT random inputs, all eight functions each
+ *   compare SEED COUNT [FIRST]   COUNT random inputs, all eight functions of tables
+ *                                and paths each, and some random texts with each
  *   compare fixed                the cases whose answers are known
  *   compare stress               the largest inputs, on a stack of 1 MiB
+ *   compare edits                some texts with one byte changed, each way there is
  *
  * Both sides get the same output slice, filled with the same random words and
  * with more such words around it; afterwards the whole must be equal, and on a
@@ -13,7 +15,9 @@
  */
 #include "bargetulip.h"
 #include "compare_files.h"
+#include "compare_texts.h"
 #include "fixed.h"
+#include "fixed_texts.h"
 #include "harness.h"
 #include "reference.h"
 #include "stress.h"
@@ -366,6 +370,7 @@ static void print_summary(uint64_t cases)
         print_seen(names[f], seen[f], NUMBERS,
                    f == VIEW ? "0 empty, 1 a part" : f == PLACE ? "axes:times" : "number:times");
     print_files_seen();
+    print_texts_seen();
     for (int e = 1; e < EDITIONS; e++)
         printf("edition %d        %lu evaluations done; turned paths run from both ends of %lu pairs, %lu selected\n",
                e, (unsigned long)done[e], (unsigned long)pairs[e], (unsigned long)pairs_selected[e]);
@@ -403,7 +408,7 @@ static int compare(unsigned long seed, unsigned long count, unsigned long first)
     for (unsigned long n = first; n < first + count; n++) {
         struct random random = {(uint64_t)seed << 32 ^ n * 0x2545F4914F6CDD1Du};
         make_input(&random, &in);
-        if (!all_agree(&random, &in) || !more_agree(&random, &in)) {
+        if (!all_agree(&random, &in) || !more_agree(&random, &in) || !texts_agree(&random)) {
             printf("seed %lu, case %lu\n", seed, n);
             return 1;
         }
@@ -415,11 +420,13 @@ static int compare(unsigned long seed, unsigned long count, unsigned long first)
 int main(int argc, char **argv)
 {
     if (argc == 2 && strcmp(argv[1], "fixed") == 0)
-        return fixed();
+        return fixed() | fixed_texts();
     if (argc == 2 && strcmp(argv[1], "stress") == 0)
         return stress();
+    if (argc == 2 && strcmp(argv[1], "edits") == 0)
+        return edits();
     if (argc != 3 && argc != 4) {
-        puts("usage: compare SEED COUNT [FIRST] | compare fixed | compare stress");
+        puts("usage: compare SEED COUNT [FIRST] | compare fixed | compare stress | compare edits");
         return 2;
     }
     return compare(strtoul(argv[1], NULL, 10), strtoul(argv[2], NULL, 10),
