@@ -1,10 +1,8 @@
 /* compare.c: holds the archive to the independent reference on random inputs.
  *
- *   compare SEED COUNT [FIRST]   COUNT random inputs, all eight functions of tables
- *                                and paths each, and some random texts with each
+ *   compare SEED COUNT [FIRST]   COUNT random inputs, all eight functions each
  *   compare fixed                the cases whose answers are known
  *   compare stress               the largest inputs, on a stack of 1 MiB
- *   compare edits                some texts with one byte changed, each way there is
  *
  * Both sides get the same output slice, filled with the same random words and
  * with more such words around it; afterwards the whole must be equal, and on a
@@ -15,9 +13,7 @@
  */
 #include "bargetulip.h"
 #include "compare_files.h"
-#include "compare_texts.h"
 #include "fixed.h"
-#include "fixed_texts.h"
 #include "harness.h"
 #include "reference.h"
 #include "stress.h"
@@ -370,7 +366,6 @@ static void print_summary(uint64_t cases)
         print_seen(names[f], seen[f], NUMBERS,
                    f == VIEW ? "0 empty, 1 a part" : f == PLACE ? "axes:times" : "number:times");
     print_files_seen();
-    print_texts_seen();
     for (int e = 1; e < EDITIONS; e++)
         printf("edition %d        %lu evaluations done; turned paths run from both ends of %lu pairs, %lu selected\n",
                e, (unsigned long)done[e], (unsigned long)pairs[e], (unsigned long)pairs_selected[e]);
@@ -408,7 +403,7 @@ static int compare(unsigned long seed, unsigned long count, unsigned long first)
     for (unsigned long n = first; n < first + count; n++) {
         struct random random = {(uint64_t)seed << 32 ^ n * 0x2545F4914F6CDD1Du};
         make_input(&random, &in);
-        if (!all_agree(&random, &in) || !more_agree(&random, &in) || !texts_agree(&random)) {
+        if (!all_agree(&random, &in) || !more_agree(&random, &in)) {
             printf("seed %lu, case %lu\n", seed, n);
             return 1;
         }
@@ -420,13 +415,11 @@ static int compare(unsigned long seed, unsigned long count, unsigned long first)
 int main(int argc, char **argv)
 {
     if (argc == 2 && strcmp(argv[1], "fixed") == 0)
-        return fixed() | fixed_texts();
+        return fixed();
     if (argc == 2 && strcmp(argv[1], "stress") == 0)
         return stress();
-    if (argc == 2 && strcmp(argv[1], "edits") == 0)
-        return edits();
     if (argc != 3 && argc != 4) {
-        puts("usage: compare SEED COUNT [FIRST] | compare fixed | compare stress | compare edits");
+        puts("usage: compare SEED COUNT [FIRST] | compare fixed | compare stress");
         return 2;
     }
     return compare(strtoul(argv[1], NULL, 10), strtoul(argv[2], NULL, 10),

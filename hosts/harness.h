@@ -1,4 +1,4 @@
-/* harness.h: what the comparisons of compare.c, compare_files.c and compare_texts.c share. */
+/* harness.h: what the comparisons of compare.c and compare_files.c share. */
 #ifndef HARNESS_H
 #define HARNESS_H
 

@@ -1,9 +1,10 @@
 /* stress.c: long, chained, deep and nested paths over 8,192 rows, the most attributes, and the longest files.
  *
- * Each case runs the archive on a stack of 1 MiB (small_stack.h) and compares
- * the answers with the reference, which runs on the ordinary stack. Paths run in
- * edition 2, and again in edition 1 with every node() written as *, which there
- * selects the same. Texts of paths are in stress_texts.c.
+ * Each case runs the archive in a thread whose stack is exactly 1 MiB, above a
+ * page that cannot be touched, and compares the answers with the reference,
+ * which runs on the ordinary stack. The stack is filled with a pattern first,
+ * so that the most that was used can be told. Paths run in edition 2, and again
+ * in edition 1 with every node() written as *, which there selects the same.
  */
 #include "stress.h"
 
@@ -11,13 +12,14 @@
 #include "files.h"
 #include "inputs.h"
 #include "reference.h"
-#include "small_stack.h"
-#include "stress_texts.h"
 
+#include <pthread.h>
 #include <stdio.h>
+#include <stdlib.h>
 #include <string.h>
+#include <sys/mman.h>
 
-enum { ROWS = BT_MAX_TABLE_ROWS, TURNED_ROOM = 5 * 256, DESCENDANT = 3 };
+enum { ROWS = BT_MAX_TABLE_ROWS, STACK = 1 << 20, PAGE = 4096, PATTERN = 0xA5, TURNED_ROOM = 5 * 256, DESCENDANT = 3 };
 
 static const uint64_t WORK_LIMIT = 1200000000;
 
@@ -218,9 +220,50 @@ static void run_reference(const struct input *in, struct answers *a)
         puts("stress: a case is above the reference's limit");
 }
 
+static char *make_stack(void)
+{
+    char *area = mmap(NULL, STACK + PAGE, PROT_READ | PROT_WRITE, MAP_PRIVATE | MAP_ANONYMOUS, -1, 0);
+    if (area == MAP_FAILED || mprotect(area, PAGE, PROT_NONE) != 0) {
+        puts("stress: no memory for a stack");
+        exit(2);
+    }
+    return area + PAGE;
+}
+
+/* runs the archive on the small stack and gives back how much of it was used */
+static size_t on_small_stack(void *(*run)(void *), void *job)
+{
+    static char *stack;
+    pthread_attr_t attributes;
+    pthread_t thread;
+    size_t unused = 0;
+    if (!stack)
+        stack = make_stack();
+    memset(stack, PATTERN, STACK);
+    if (pthread_attr_init(&attributes) != 0 || pthread_attr_setstack(&attributes, stack, STACK) != 0 ||
+        pthread_create(&thread, &attributes, run, job) != 0 || pthread_join(thread, NULL) != 0) {
+        puts("stress: no thread");
+        exit(2);
+    }
+    while (unused < STACK && (unsigned char)stack[unused] == PATTERN)
+        unused++;
+    return STACK - unused;
+}
+
 /* ---- the cases ---- */
 
 static struct input in;
+static size_t most;
+static char most_case[64];
+static int differences;
+
+static void note(const char *what, bool same, size_t used)
+{
+    if (used > most)
+        snprintf(most_case, sizeof most_case, "%s", what);
+    most = used > most ? used : most;
+    differences += !same;
+}
 
 /* writes each node() of a path as *, which in edition 1 is the same */
 static void write_stars(struct input *to)
@@ -415,7 +458,7 @@ static void run_known(const char *what, uint32_t number, uint32_t place)
     if (bt_check_table(in.table, in.table_len, &found) == number && found == place)
         return;
     printf("DIFFERENT  the table's number is not %u or its place not %u\n", number, place);
-    note(what, false, 0);
+    differences++;
 }
 
 /* gives a row the name of another one */
@@ -595,6 +638,7 @@ int stress(void)
     run_nested();
     run_attributes();
     run_files();
-    stress_texts();
-    return print_noted();
+    printf("stress: %d different; most stack used %lu KiB of 1,024, by: %s\n", differences,
+           (unsigned long)(most / 1024), most_case);
+    return differences != 0;
 }

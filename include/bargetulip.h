@@ -1,11 +1,10 @@
 /* bargetulip.h: the proved XPath 1.0 checker, called from C.
  *
- * Nine functions over plain numbers and bytes: two checkers, the place of a
+ * Eight functions over plain numbers and bytes: two checkers, the place of a
  * node on an axis of another, an evaluator, a path turner, a view of an answer
- * inside one subtree, a reader and a writer of table files, and a reader of
- * path text. What a table, a table file, a path, a path text and an answer are
- * is said below as far as a caller needs it; documents 01 and 02 of the project
- * are the definition.
+ * inside one subtree, and a reader and a writer of table files. What a table, a
+ * table file, a path and an answer are is said below as far as a caller needs
+ * it; documents 01 and 02 of the project are the definition.
  * Link with libcapi.a (made by `rt lib` in crates/capi) on x86-64 Linux. It
  * calls memcpy and memset of the C library and nothing else.
  *
@@ -66,26 +65,13 @@
  *
  * Literals are finite doubles with a clear sign bit, at most 64 of them.
  *
- * A path text is XPath 1.0 as bytes, with a list of names in memory that the
- * caller lends: each name ended by one line feed, the last too, at most 65,535
- * of them, none twice; the i-th has number i. A name is an ASCII letter or _,
- * then such, digits, - or . in any number. Of the Recommendation's grammar rows
- * hold location paths on axes 0 to 11 (@ and the other abbreviations are
- * expanded) with the tests above, and in predicates numbers, position(),
- * last(), count(), not(), boolean(), and, or, comparisons and arithmetic of
- * numbers. A literal has at most 15 digits; round brackets hold no path. The
- * rest is grammar that is not held: strings, variables, unions, filters,
- * prefixes, the namespace axis, other functions. Text may be of any length and
- * nested in any depth; only its rows are limited.
- *
  * Rules for every call
  *   - Lengths count numbers (uint32_t or double), not rows and not bytes; the
  *     length of a uint8_t slice counts bytes.
  *   - Every pointer must be non-null and aligned for its type, even where its
  *     length is 0 (nothing is then read or written through it).
- *   - What a function writes (out, place, begin, count; of bt_read_path rows,
- *     literals, place, literal_count) must overlap neither each other nor what
- *     it reads (table, path, literals, list, file, text, names).
+ *   - What a function writes (out, place, begin, count) must overlap neither
+ *     each other nor what it reads (table, path, literals, list, file).
  *     What it only reads may overlap freely and is never changed.
  *   - Nothing is kept after the call: the caller owns all memory.
  *   - No heap, no globals, no locks, and no file is opened: the functions are
@@ -94,9 +80,8 @@
  *     counts of paths and steps that count positions, nested in each other,
  *     take a power of the rows for each nesting.
  *   - A stack of 1 MiB is enough for every input.
- *   - Any content is allowed: damaged tables, paths, literals, lists, files,
- *     texts and names are refused with a number and a place, never undefined
- *     behaviour.
+ *   - Any content is allowed: damaged tables, paths, literals, lists and files
+ *     are refused with a number and a place, never undefined behaviour.
  */
 #ifndef BARGETULIP_H
 #define BARGETULIP_H
@@ -110,10 +95,9 @@ extern "C" {
 
 /* The numbers given back. Checks run in the order of this list (14 and 13 came
  * later: 14 stands before all others, 13 between 9 and 10, for all steps are
- * looked at for 9 before any is for 13), but for the readers of table files and
- * of path text and the writer of table files, which say their own, and the first
- * that applies is returned; *place is always written and means what the comment
- * says. */
+ * looked at for 9 before any is for 13), but for the reader and the writer of
+ * table files, which say their own, and the first that applies is returned;
+ * *place is always written and means what the comment says. */
 enum {
     BT_DONE = 0,          /* done: nodes or rows written (checkers: row count;
                              files: numbers or bytes written) */
@@ -135,22 +119,8 @@ enum {
     BT_TURN_ROOM = 11,    /* turning: rows + 1 above 256, or out shorter than
                              5 * (rows + 1): rows + 1 */
     BT_FILE_LINE = 20,    /* reading: a bad line: the first one's number from 1 */
-    BT_FILE_ROOM = 21,    /* files: out too short: the numbers (reading) or
-                             bytes (writing) that are needed in all;
-                             text: rows too short: the numbers needed in all */
-    BT_NAMES = 22,        /* text: a bad list of names: the first bad line's
-                             number from 1 */
-    BT_TEXT = 23,         /* text: outside the Recommendation's grammar: the
-                             first byte of the first token with which no text of
-                             it goes on, or the length */
-    BT_UNKNOWN_NAME = 24, /* text: a name test that is not in the list: its
-                             first byte */
-    BT_DIGITS = 25,       /* text: a literal of more than 15 digits: its first
-                             byte */
-    BT_NOT_HELD = 26,     /* text: a construct or an operand that rows cannot
-                             hold: its first byte */
-    BT_LITERAL_ROOM = 27  /* text: literals too short: the literals needed in
-                             all */
+    BT_FILE_ROOM = 21     /* files: out too short: the numbers (reading) or
+                             bytes (writing) that are needed in all */
 };
 
 /* The editions of rule sheets. They differ in `*` (test 1) alone: in edition 2
@@ -166,9 +136,7 @@ enum {
     BT_MAX_TABLE_ROWS = 8192,
     BT_MAX_PATH_ROWS = 256,
     BT_MAX_LITERALS = 64,
-    BT_MAX_DEPTH = 8,
-    BT_MAX_NAMES = 65535,
-    BT_MAX_DIGITS = 15
+    BT_MAX_DEPTH = 8
 };
 
 /* Checks a node table.
@@ -244,24 +212,6 @@ uint32_t bt_read_table(const uint8_t *file, size_t file_len,
  * broken row (2). Called with no room it says on 21 how many bytes to lend. */
 uint32_t bt_write_table(const uint32_t *table, size_t table_len,
                         uint8_t *out, size_t out_len, uint64_t *place);
-
-/* Reads a path text with a list of names into rows and literals, which the other
- * functions take as a path.
- * Returns 0, 22 to 26, 3, 4, 6, 21 or 27. 22 is checked first, then 23; then of
- * all faults 24, 25 and 26 the one at the lowest byte, at one byte the lowest
- * number; then 3 (above 256 rows: 0), 4 (above 64 literals: 64), 6 (above depth
- * 8: 0), 21 and 27. Bytes of the text count from 0. *place: the number of rows
- * (0), otherwise as in the list above.
- * On 0 the rows stand in rows[0 .. 5 * *place - 1], in postorder, and the
- * literals in literals[0 .. *literal_count - 1], each value once, numbered by
- * first use; the rest of both is unchanged. On every other number both are
- * unchanged and *literal_count is 0. *literal_count is always written. A room of
- * 5 * 256 numbers and 64 literals is always enough. */
-uint32_t bt_read_path(const uint8_t *text, size_t text_len,
-                      const uint8_t *names, size_t names_len,
-                      uint32_t *rows, size_t rows_len,
-                      double *literals, size_t literals_len,
-                      uint64_t *place, uint32_t *literal_count);
 
 #ifdef __cplusplus
 }

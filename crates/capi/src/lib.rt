@@ -7,12 +7,10 @@ ghost use Rattle.meaning.specs.Answers.{answer};
 ghost use Rattle.meaning.specs.View.{part_from};
 ghost use Rattle.meaning.specs.Promises.{ChecksTable, AnswersPlace, ChecksPath, EvaluatesPath, TurnsPath, FindsPart};
 ghost use Rattle.files.specs.Answers.{ReadsTable, WritesTable};
-ghost use Rattle.text.specs.Reading.{ReadsPath};
 
 use files::{read_table, write_table};
 use path_check::check_path;
 use place::axis_place;
-use reader::read_path;
 use select::evaluate;
 use table_check::check_table;
 use turn::turn;
@@ -102,21 +100,4 @@ pub extern "C" fn bt_write_table(table: &[u32], out: &mut [u8], place: &mut u64)
     let answer = write_table(table, out);
     *place = answer.place;
     answer.number
-}
-
-#[unsafe(no_mangle)]
-pub extern "C" fn bt_read_path(
-    text: &[u8],
-    names: &[u8],
-    rows: &mut [u32],
-    literals: &mut [f64],
-    place: &mut u64,
-    literal_count: &mut u32,
-) -> u32
-    ensures { ReadsPath text.now names.now rows.old literals.old (answer result place.new) literal_count.new rows.new literals.new }
-{
-    let reading = read_path(text, names, rows, literals);
-    *place = reading.place;
-    *literal_count = reading.literals;
-    reading.number
 }
