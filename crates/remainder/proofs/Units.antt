@@ -24,37 +24,30 @@ use Rattle.remainder.specs.Units.{size_of}
 
 -- ---- the fields of a double's bits
 
-pub value_low : (s : Bool) (t : ℕ) → HasValue (of_fields binary64 s 0 t) s (t * 2 ^ 0) (2 ^ 1074)
+value_low : (s : Bool) (t : ℕ) → HasValue (of_fields binary64 s 0 t) s (t * 2 ^ 0) (2 ^ 1074)
 unfolding of_fields
 value_low s t = odd_sign 53 s t 0 1074
 
-pub value_high : (s : Bool) (x t : ℕ) → suc x < 2047 → HasValue (of_fields binary64 s (suc x) t) s ((2 ^ 52 + t) * 2 ^ x) (2 ^ 1074)
+value_high : (s : Bool) (x t : ℕ) → suc x < 2047 → HasValue (of_fields binary64 s (suc x) t) s ((2 ^ 52 + t) * 2 ^ x) (2 ^ 1074)
 unfolding of_fields
 value_high s x t h =
     subst (λ (k : Bool). HasValue (cond k (cond (eqb t 0) (inf s) nan) (odd 53 s (2 ^ 52 + t) x 1074)) s ((2 ^ 52 + t) * 2 ^ x) (2 ^ 1074)) (sym (ne_eqb (suc x) 2047 (omega arith)))
     (odd_sign 53 s (2 ^ 52 + t) x 1074)
 
-low_bits : (b : ℕ) → b / 2 ^ 52 ≡ 0 → (s : Bool) → HasValue (of_fields binary64 s (b / 2 ^ 52) (b % 2 ^ 52)) s (b * 2 ^ 0) (2 ^ 1074)
-low_bits b h s =
-    let e : b % 2 ^ 52 ≡ b = omega arith in
-    subst (λ (x : ℕ). HasValue (of_fields binary64 s x (b % 2 ^ 52)) s (b * 2 ^ 0) (2 ^ 1074)) (sym h)
-    (subst (λ (t : ℕ). HasValue (of_fields binary64 s 0 t) s (b * 2 ^ 0) (2 ^ 1074)) (sym e) (value_low s b))
-
-high_bits : (b : ℕ) → (b / 2 ^ 52 ≡ 0 → ⊥) → b < 2047 * 2 ^ 52 → (s : Bool)
-    → HasValue (of_fields binary64 s (b / 2 ^ 52) (b % 2 ^ 52)) s ((b % 2 ^ 52 + 2 ^ 52) * 2 ^ (b / 2 ^ 52 - 1)) (2 ^ 1074)
-high_bits b h l s =
-    let e : suc (b / 2 ^ 52 - 1) ≡ b / 2 ^ 52 = omega arith in
-    subst (λ (x : ℕ). HasValue (of_fields binary64 s x (b % 2 ^ 52)) s ((b % 2 ^ 52 + 2 ^ 52) * 2 ^ (b / 2 ^ 52 - 1)) (2 ^ 1074)) e
-    (subst (λ (d : ℕ). HasValue (of_fields binary64 s (suc (b / 2 ^ 52 - 1)) (b % 2 ^ 52)) s (d * 2 ^ (b / 2 ^ 52 - 1)) (2 ^ 1074)) (add_comm (2 ^ 52) (b % 2 ^ 52))
-    (value_high s (b / 2 ^ 52 - 1) (b % 2 ^ 52) (omega arith)))
-
 -- the size of the double with these bits, by its parts
 pub size_low : (b : ℕ) → b / 2 ^ 52 ≡ 0 → (s : Bool) → HasValue (of_fields binary64 s (b / 2 ^ 52) (b % 2 ^ 52)) s (size_of b 0) (2 ^ 1074)
-size_low b h s = low_bits b h s
+size_low b h s =
+    let e : b % 2 ^ 52 ≡ b = omega arith in
+    subst (λ (x : ℕ). HasValue (of_fields binary64 s x (b % 2 ^ 52)) s (size_of b 0) (2 ^ 1074)) (sym h)
+    (subst (λ (t : ℕ). HasValue (of_fields binary64 s 0 t) s (size_of b 0) (2 ^ 1074)) (sym e) (value_low s b))
 
 pub size_high : (b : ℕ) → (b / 2 ^ 52 ≡ 0 → ⊥) → b < 2047 * 2 ^ 52 → (s : Bool)
     → HasValue (of_fields binary64 s (b / 2 ^ 52) (b % 2 ^ 52)) s (size_of (b % 2 ^ 52 + 2 ^ 52) (b / 2 ^ 52 - 1)) (2 ^ 1074)
-size_high b h l s = high_bits b h l s
+size_high b h l s =
+    let e : suc (b / 2 ^ 52 - 1) ≡ b / 2 ^ 52 = omega arith in
+    subst (λ (x : ℕ). HasValue (of_fields binary64 s x (b % 2 ^ 52)) s (size_of (b % 2 ^ 52 + 2 ^ 52) (b / 2 ^ 52 - 1)) (2 ^ 1074)) e
+    (subst (λ (d : ℕ). HasValue (of_fields binary64 s (suc (b / 2 ^ 52 - 1)) (b % 2 ^ 52)) s (size_of d (b / 2 ^ 52 - 1)) (2 ^ 1074)) (add_comm (2 ^ 52) (b % 2 ^ 52))
+    (value_high s (b / 2 ^ 52 - 1) (b % 2 ^ 52) (omega arith)))
 
 -- ---- doubles and their bits
 
@@ -70,7 +63,7 @@ power_low k b h e =
     let few : 2 ^ k ≤ 2 ^ 51 = pow_mono {i = k} {j = 51} (omega arith) in
     let v : b * 2 ^ 0 ≡ 2 ^ k = omega arith in
     subst (λ (x : Float). HasValue x false (2 ^ k) (2 ^ 1074)) (plain b (omega arith))
-    (subst (λ (n : ℕ). HasValue (of_fields binary64 false (b / 2 ^ 52) (b % 2 ^ 52)) false n (2 ^ 1074)) v (low_bits b (omega arith) false))
+    (subst (λ (n : ℕ). HasValue (of_fields binary64 false (b / 2 ^ 52) (b % 2 ^ 52)) false n (2 ^ 1074)) v (size_low b (omega arith) false))
 
 pub power_high : (k b : ℕ) → 52 ≤ k → k ≤ 2045 → b ≡ (k - 51) * 2 ^ 52 → HasValue (of_bits binary64 b) false (2 ^ k) (2 ^ 1074)
 power_high k b h l e =
@@ -80,7 +73,7 @@ power_high k b h l e =
     let whole : 52 + (k - 52) ≡ k = omega arith in
     rw (low, high) (sym (pow-add 2 52 (k - 52)) ∙ ap (λ (z : ℕ). 2 ^ z) whole) in
     subst (λ (x : Float). HasValue x false (2 ^ k) (2 ^ 1074)) (plain b (omega arith))
-    (subst (λ (n : ℕ). HasValue (of_fields binary64 false (b / 2 ^ 52) (b % 2 ^ 52)) false n (2 ^ 1074)) v (high_bits b (omega arith) (omega arith) false))
+    (subst (λ (n : ℕ). HasValue (of_fields binary64 false (b / 2 ^ 52) (b % 2 ^ 52)) false n (2 ^ 1074)) v (size_high b (omega arith) (omega arith) false))
 
 -- what digits and a power of two make
 pub product_is : (n k : ℕ) (p : Float) → 0 < n → n < 2 ^ 53 → HasValue p false (2 ^ k) (2 ^ 1074)
@@ -115,8 +108,8 @@ finite_is x h l =
     let a = b % 2 ^ 63 in
     let s = leb (2 ^ 63) b in
     elim (eq-zero-or-pos (a / 2 ^ 52)) [
-      | inl z ↦ (a * 2 ^ 0, subst (λ (y : Float). HasValue y s (a * 2 ^ 0) (2 ^ 1074)) (sym (as_fields x h)) (low_bits a z s))
-      | inr z ↦ ((a % 2 ^ 52 + 2 ^ 52) * 2 ^ (a / 2 ^ 52 - 1), subst (λ (y : Float). HasValue y s ((a % 2 ^ 52 + 2 ^ 52) * 2 ^ (a / 2 ^ 52 - 1)) (2 ^ 1074)) (sym (as_fields x h)) (high_bits a (λ e. omega arith) l s))
+      | inl z ↦ (a * 2 ^ 0, subst (λ (y : Float). HasValue y s (a * 2 ^ 0) (2 ^ 1074)) (sym (as_fields x h)) (size_low a z s))
+      | inr z ↦ ((a % 2 ^ 52 + 2 ^ 52) * 2 ^ (a / 2 ^ 52 - 1), subst (λ (y : Float). HasValue y s ((a % 2 ^ 52 + 2 ^ 52) * 2 ^ (a / 2 ^ 52 - 1)) (2 ^ 1074)) (sym (as_fields x h)) (size_high a (λ e. omega arith) l s))
     ]
 
 -- and another one that is a number is infinite
@@ -162,7 +155,7 @@ scaled_more a i b k d h l e =
 pub left_out : (a i b k : ℕ) → i ≤ k → a < b * 2 ^ (k - i) → size_of a i ≡ size_of a i % size_of b k
 left_out a i b k l h = sym (mod-eq_of_lt (subst (λ (z : ℕ). size_of a i < z) (sym (more_digits b i k l)) (mul-lt-mul_of_pos_right h (pow_pos i))))
 
-pub far_above : (a b n : ℕ) → a < 2 ^ 53 → 0 < b → 52 < n → a < b * 2 ^ n
+pub far_above : (a b n : ℕ) → a < 2 ^ 53 → 0 < b → 53 ≤ n → a < b * 2 ^ n
 far_above a b n h k l =
     let m : 2 ^ 53 ≤ 2 ^ n = pow_mono {i = 53} {j = n} (omega arith) in
     let some : 1 * 2 ^ n ≤ b * 2 ^ n = mul-le-mul_right (2 ^ n) (omega arith) in

@@ -18,10 +18,14 @@ struct Size {
 // The bits of infinity. Those below it are the finite doubles that are not negative.
 const INFINITY: u64 = 0x7ff0_0000_0000_0000;
 
+// The bit of the sign.
 const SIGN: u64 = 0x8000_0000_0000_0000;
 
 // The leading digit of a double that is not among the smallest, which its bits leave out.
 const LEADING: u64 = 0x10_0000_0000_0000;
+
+// So many places above, a divisor is larger than any digits.
+const FAR: u64 = 53;
 
 // The size of the finite double that has these bits, without its sign.
 fn size_from(bits: u64) -> Size
@@ -89,7 +93,7 @@ fn rest(a: Size, b: Size) -> Size
         };
     }
     let more = b.shift - a.shift;
-    if 52 < more {
+    if FAR <= more {
         return a;
     }
     if a.digits >> more < b.digits {

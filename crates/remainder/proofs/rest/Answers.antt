@@ -12,10 +12,10 @@ returns-then-b-a-clause-value c =
     ap (λ (z : ℕ). size_of z c.args.b.shift) c.rest_by.ensures
     ∙ scaled_less c.args.a.digits c.args.a.shift c.args.b.digits c.args.b.shift c.requires.b_digits.0 c.if-b-a.true
 
-pub returns-then-more-gt52-clause-value : goal.returns-then-more-gt52-clause-value
-returns-then-more-gt52-clause-value c =
+pub returns-then-more-ge-FAR-clause-value : goal.returns-then-more-ge-FAR-clause-value
+returns-then-more-ge-FAR-clause-value c =
     left_out c.args.a.digits c.args.a.shift c.args.b.digits c.args.b.shift (omega arith)
-    (far_above c.args.a.digits c.args.b.digits _ c.requires.a_digits c.requires.b_digits.0 c.if-more-gt52.true)
+    (far_above c.args.a.digits c.args.b.digits _ c.requires.a_digits c.requires.b_digits.0 c.if-more-ge-FAR.true)
 
 pub returns-then-a-more-clause-value : goal.returns-then-a-more-clause-value
 returns-then-a-more-clause-value c =
