@@ -1,3 +1,4 @@
+-- The answers of `basics::copy_literals`: what its code leaves to show, by the invariants beside this file. Assumes nothing.
 use native.Mathlib.Omega.{arith}
 use mathlib.Core.Path.{◌≡◌, refl, ◌∙◌}
 use lib.ListN.{length, length-set}

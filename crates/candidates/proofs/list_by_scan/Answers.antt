@@ -1,3 +1,4 @@
+-- The answers of `candidates::list_by_scan`: what its code leaves to show, by the invariants beside this file. Assumes nothing.
 use mathlib.Core.Path.{◌≡◌, refl, sym, ap, ◌∙◌}
 use native.Mathlib.Omega.{arith}
 use lib.ListN.{length, length-set}

@@ -1,3 +1,4 @@
+-- The answers of `counting::asks`: what its code leaves to show, by the invariants beside this file. Assumes nothing.
 use Rattle.meaning.proofs.Counting.{asks_none, asks_itself, asks_no_path, asks_links}
 use Rattle.counting.proofs.+asks.Goals as goal
 

@@ -1,3 +1,4 @@
+-- The answers of `counting::counting`: what its code leaves to show, by the invariants beside this file. Assumes nothing.
 use Rattle.meaning.proofs.Counting.{counting_none, counting_row}
 use Rattle.counting.proofs.+counting.Goals as goal
 

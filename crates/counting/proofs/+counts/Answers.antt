@@ -1,3 +1,4 @@
+-- The answers of `counting::counts`: what its code leaves to show, by the invariants beside this file. Assumes nothing.
 use Rattle.meaning.proofs.Counting.{counts_none, counts_row}
 use Rattle.counting.proofs.+counts.Goals as goal
 

@@ -1,3 +1,4 @@
+-- The answers of `counting::is_heavy`: what its code leaves to show, by the invariants beside this file. Assumes nothing.
 use Rattle.counting.proofs.Heavy.{heavy_none, heavy_itself, heavy_links}
 use Rattle.counting.proofs.+is_heavy.Goals as goal
 

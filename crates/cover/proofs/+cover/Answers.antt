@@ -1,3 +1,4 @@
+-- The answers of `cover::cover`: what its code leaves to show, by the invariants beside this file. Assumes nothing.
 use native.Mathlib.Omega.{arith}
 use Rattle.cover.proofs.Links.{lower}
 use Rattle.cover.proofs.Covering.{covered_none, covered_row}

@@ -1,3 +1,4 @@
+-- The answers of `decimal::width`: what its code leaves to show, by the invariants beside this file. Assumes nothing.
 use Prim.Native.Nat.{◌+◌, ◌/◌}
 use native.Mathlib.Omega.{arith}
 use mathlib.Core.Path.{◌≡◌}

@@ -1,3 +1,4 @@
+-- The answers of `literals::digit_count`: what its code leaves to show, by the invariants beside this file. Assumes nothing.
 use native.Mathlib.Omega.{arith}
 use mathlib.Core.Path.{sym, ◌∙◌}
 use Rattle.literals.proofs.Digits.{count_digit, count_other, count_none}

@@ -1,3 +1,4 @@
+-- The answers of `literals::front_end`: what its code leaves to show, by the invariants beside this file. Assumes nothing.
 use native.Mathlib.Omega.{arith}
 use mathlib.Core.Path.{refl, sym, ◌∙◌}
 use Rattle.literals.proofs.Digits.{front_digit, front_other, front_none}

@@ -1,3 +1,4 @@
+-- The answers of `literals::index_of`: what its code leaves to show, by the invariants beside this file. Assumes nothing.
 use Prim.Native.Nat.{◌-◌}
 use native.Mathlib.Nat.{zero-add}
 use native.Mathlib.Omega.{arith}

@@ -1,3 +1,4 @@
+-- The answers of `literals::power_of_ten`: what its code leaves to show, by the invariants beside this file. Assumes nothing.
 use Prim.Native.Nat.{◌+◌, ◌*◌, ◌^◌, ◌≤◌}
 use native.Mathlib.Nat.{pow-suc}
 use native.Mathlib.Numerals.{add-one}

@@ -1,3 +1,4 @@
+-- The answers of `literals::whole`: what its code leaves to show, by the invariants beside this file. Assumes nothing.
 use native.Mathlib.Omega.{arith}
 use mathlib.Core.Path.{◌≡◌, refl, sym, ◌∙◌}
 use Rattle.decimal.specs.Decimal.{number}

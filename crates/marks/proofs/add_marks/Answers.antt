@@ -1,3 +1,4 @@
+-- The answers of `marks::add_marks`: what its code leaves to show, by the invariants beside this file. Assumes nothing.
 use mathlib.Core.Path.{refl, ap, ◌∙◌}
 use native.Mathlib.Omega.{arith}
 use borrow.Author.Rules.{rules}

@@ -1,3 +1,4 @@
+-- The answers of `marks::count_marks`: what its code leaves to show, by the invariants beside this file. Assumes nothing.
 use native.Mathlib.Omega.{arith}
 use borrow.Author.Rules.{rules}
 use Rattle.meaning.proofs.Marks.{counted_start, counted_more, counted_skip, counted_done}

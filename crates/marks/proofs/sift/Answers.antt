@@ -1,3 +1,4 @@
+-- The answers of `marks::sift`: what its code leaves to show, by the invariants beside this file. Assumes nothing.
 use mathlib.Core.Path.{refl, sym, ◌∙◌}
 use mathlib.Core.Bool.{false, and-true}
 use lib.ListN.{get_or, length-set}

@@ -1,3 +1,4 @@
+-- The answers of `names::all_name_bytes`: what its code leaves to show, by the invariants beside this file. Assumes nothing.
 use native.Mathlib.Omega.{arith}
 use mathlib.Core.Path.{refl, sym, ◌∙◌}
 use Rattle.names.proofs.Words.{name_bytes_at, name_bytes_end}

@@ -1,3 +1,4 @@
+-- The answers of `names::line_start`: what its code leaves to show, by the invariants beside this file. Assumes nothing.
 use Prim.Native.Nat.{suc, ◌+◌, ◌*◌, ◌/◌, ◌≤◌}
 use native.Mathlib.Omega.{arith}
 use native.Mathlib.Numerals.{add-one}

@@ -1,3 +1,4 @@
+-- The answers of `path_check::depth_of`: what its code leaves to show, by the invariants beside this file. Assumes nothing.
 use mathlib.Core.Path.{ap, ◌∙◌, refl}
 use lib.ListN.{length-set}
 use native.Mathlib.Omega.{arith}

@@ -1,3 +1,4 @@
+-- The answers of `path_check::lowest_broken_row`: what its code leaves to show, by the invariants beside this file. Assumes nothing.
 use mathlib.Core.Path.{refl, sym, ◌∙◌}
 use native.Mathlib.Omega.{arith}
 use borrow.Author.Rules.{rules}

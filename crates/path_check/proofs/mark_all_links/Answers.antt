@@ -1,3 +1,4 @@
+-- The answers of `path_check::mark_all_links`: what its code leaves to show, by the invariants beside this file. Assumes nothing.
 use native.Mathlib.Omega.{arith}
 use Rattle.path_check.proofs.Passes.{marks_all}
 use Rattle.path_check.proofs.mark_all_links.Goals as goal

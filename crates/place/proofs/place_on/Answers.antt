@@ -1,3 +1,4 @@
+-- The answers of `place::place_on`: what its code leaves to show, by the invariants beside this file. Assumes nothing.
 use mathlib.Core.Path.{◌≡◌, sym, ◌∙◌}
 use native.Mathlib.Omega.{arith}
 use borrow.Author.Rules.{rules}

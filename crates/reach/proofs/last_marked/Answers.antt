@@ -1,3 +1,4 @@
+-- The answers of `reach::last_marked`: what its code leaves to show, by the invariants beside this file. Assumes nothing.
 use mathlib.Core.Path.{◌≡◌, refl, ◌∙◌}
 use mathlib.Core.Bool.{true}
 use native.Mathlib.Omega.{arith}

@@ -1,3 +1,4 @@
+-- The answers of `reach::mark_after`: what its code leaves to show, by the invariants beside this file. Assumes nothing.
 use mathlib.Core.Path.{refl, sym, ◌∙◌}
 use lib.ListN.{length-set}
 use native.Mathlib.Omega.{arith}

@@ -1,3 +1,4 @@
+-- The answers of `reach::mark_over`: what its code leaves to show, by the invariants beside this file. Assumes nothing.
 use Prim.Native.Nat.{◌<◌}
 use mathlib.Core.Path.{◌≡◌, refl, ◌∙◌}
 use lib.ListN.{length-set}

@@ -1,3 +1,4 @@
+-- The answers of `sieve::settle`: what its code leaves to show, by the invariants beside this file. Assumes nothing.
 use mathlib.Core.Path.{refl, ◌∙◌}
 use lib.ListN.{length-set}
 use native.Mathlib.Omega.{arith}

@@ -1,3 +1,4 @@
+-- The answers of `table_check::first_element`: what its code leaves to show, by the invariants beside this file. Assumes nothing.
 use mathlib.Core.Path.{◌≡◌, ◌∙◌}
 use native.Mathlib.Omega.{arith}
 use borrow.Author.Tests.{eq-eqb, ne_eqb}

@@ -1,3 +1,4 @@
+-- The answers of `table_check::lowest_behind_root`: what its code leaves to show, by the invariants beside this file. Assumes nothing.
 use borrow.Author.Rules.{rules}
 use native.Mathlib.Omega.{arith}
 use mathlib.Core.Path.{◌≡◌, refl, ◌∙◌, sym}

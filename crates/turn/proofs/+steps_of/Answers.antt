@@ -1,3 +1,4 @@
+-- The answers of `turn::steps_of`: what its code leaves to show, by the invariants beside this file. Assumes nothing.
 use mathlib.Core.Path.{◌∙◌}
 use borrow.Author.Rules.{rules}
 use Rattle.meaning.proofs.Counting.{steps_none, first_none, steps_row, first_row}

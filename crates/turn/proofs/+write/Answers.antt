@@ -1,3 +1,4 @@
+-- The answers of `turn::write`: what its code leaves to show, by the invariants beside this file. Assumes nothing.
 use native.Mathlib.Omega.{arith}
 use Rattle.meaning.proofs.Written.{write_none, write_row, weight_row}
 use Rattle.turn.proofs.+write.Goals as goal

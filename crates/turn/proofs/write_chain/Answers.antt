@@ -1,3 +1,4 @@
+-- The answers of `turn::write_chain`: what its code leaves to show, by the invariants beside this file. Assumes nothing.
 use Rattle.turn.proofs.Chain.{behind_length, few_predicates, behind_start, behind_room, behind_step, behind_done}
 use Rattle.meaning.specs.Tree.{tree}
 use native.Mathlib.Omega.{arith}

@@ -1,3 +1,4 @@
+-- The answers of `view::lower_bound`: what its code leaves to show, by the invariants beside this file. Assumes nothing.
 use native.Mathlib.Omega.{arith}
 use Rattle.meaning.proofs.View.{bracket_start, bracket_up, bracket_down, bracket_met}
 use Rattle.view.proofs.lower_bound.Goals as goal

@@ -1,3 +1,4 @@
+-- The answers of `compose::desk::paths_in`: what its code leaves to show, by the invariants beside this file. Assumes nothing.
 use Prim.Native.Nat.{ℕ}
 use native.Mathlib.Omega.{arith}
 use mathlib.Core.Path.{◌≡◌, sym, ◌∙◌, ap}

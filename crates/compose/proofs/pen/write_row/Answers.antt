@@ -1,3 +1,4 @@
+-- The answers of `compose::pen::write_row`: what its code leaves to show. Assumes nothing.
 use native.Mathlib.Omega.{arith}
 use Rattle.compose.proofs.Rows.{row_more}
 use Rattle.compose.proofs.pen.write_row.Goals as goal

@@ -1,3 +1,4 @@
+-- The answers of `files::writer::put_numbers`: what its code leaves to show, by the invariants beside this file. Assumes nothing.
 use Prim.Native.Nat.{◌+◌, ◌<◌}
 use native.Mathlib.Omega.{arith}
 use mathlib.Core.Path.{◌≡◌, refl, sym, ◌∙◌}

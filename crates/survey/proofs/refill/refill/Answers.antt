@@ -1,3 +1,4 @@
+-- The answers of `survey::refill::refill`: what its code leaves to show, by the invariants beside this file. Assumes nothing.
 use native.Mathlib.Omega.{arith}
 use mathlib.Core.Path.{sym, ◌∙◌}
 use Rattle.survey.proofs.Retrace.{goes_until, traced_start, traced_done}

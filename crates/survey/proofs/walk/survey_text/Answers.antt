@@ -1,3 +1,4 @@
+-- The answers of `survey::walk::survey_text`: what its code leaves to show, by the invariants beside this file. Assumes nothing.
 use mathlib.Core.Path.{◌∙◌, sym}
 use native.Mathlib.Omega.{arith}
 use Rattle.survey.proofs.Advancing.{not_so, is_so, surveyed_start, advanced_less}

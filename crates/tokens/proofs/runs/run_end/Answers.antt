@@ -1,3 +1,4 @@
+-- The answers of `tokens::runs::run_end`: what its code leaves to show, by the invariants beside this file. Assumes nothing.
 use native.Mathlib.Omega.{arith}
 use mathlib.Core.Path.{refl, sym, ◌∙◌}
 use Rattle.text.proofs.Lexemes.{run_on, run_stop, run_past}

@@ -1,3 +1,4 @@
+-- The answers of `tokens::words::are_same`: what its code leaves to show, by the invariants beside this file. Assumes nothing.
 use native.Mathlib.Omega.{arith}
 use mathlib.Core.Path.{refl, sym, ◌∙◌}
 use Rattle.tokens.proofs.Sought.{same_short, same_more, same_other, same_all}
