@@ -5,8 +5,8 @@
 ghost use Rattle.std.specs.Prelude.{◌≡◌, ◌-◌, ◌<◌, get_or};
 ghost use Rattle.meaning.specs.Table.{rows, parent_of, end, is_attribute};
 ghost use Rattle.meaning.specs.Axis.{under, inside, after, on, axis_of, passes, test_of, is_reverse, ordered};
-ghost use Rattle.meaning.specs.Axis.Axis.{descendant, following_sibling};
-ghost use Rattle.meaning.specs.Axis.Test.{named};
+ghost use Rattle.meaning.specs.declared.Axis.TheVariants.{Descendant, FollowingSibling};
+ghost use Rattle.meaning.specs.declared.Test.TheVariants.{Named};
 ghost use Rattle.meaning.proofs.Editions.{in_second};
 
 use basics::{at_most, below, both, either, entry, same};
@@ -63,7 +63,7 @@ fn is_after(table: &[u32], x: usize, y: usize) -> bool
 // Is y a later sibling of x? Row 0 has no siblings, and no attribute has.
 fn is_later_sibling(table: &[u32], x: usize, y: usize) -> bool
     requires { (x < 4294967296) × (y < 4294967296) }
-    ensures { result ≡ on table.now following_sibling x y }
+    ensures { result ≡ on table.now FollowingSibling x y }
 {
     let later = both(below(0, x), below(x, y));
     let of_one = both(later, same(any_parent(table, x), any_parent(table, y)));
@@ -76,7 +76,7 @@ fn is_later_sibling(table: &[u32], x: usize, y: usize) -> bool
 // Is y a descendant of x? Attributes are none.
 fn is_descendant(table: &[u32], x: usize, y: usize) -> bool
     requires { (x < 4294967296) × (y < 4294967296) }
-    ensures { result ≡ on table.now descendant x y }
+    ensures { result ≡ on table.now Descendant x y }
 {
     both(is_inside(table, x, y), !any_attribute(table, y))
 }
@@ -150,7 +150,7 @@ pub fn passes_test(table: &[u32], kind: usize, test: usize, y: usize) -> bool
 // Is node y of this kind, with the name that the test asks for?
 fn is_named(table: &[u32], kind: usize, test: usize, y: usize) -> bool
     requires { y < rows table.now }
-    ensures { result ≡ passes 2 table.now kind (named (test - 16)) y }
+    ensures { result ≡ passes 2 table.now kind (Named (test - 16)) y }
 {
     both(
         same(kind_at(table, y), kind),

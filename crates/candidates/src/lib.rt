@@ -7,7 +7,7 @@ ghost use Rattle.meaning.specs.Lists.{keep};
 ghost use Rattle.meaning.proofs.Ranges.{range, own_or_plain};
 ghost use Rattle.meaning.specs.Table.{rows, most_rows, end};
 ghost use Rattle.meaning.specs.Axis.{axis_of, test_of, passes, candidates};
-ghost use Rattle.meaning.specs.Axis.Axis.{descendant, descendant_or_self};
+ghost use Rattle.meaning.specs.declared.Axis.TheVariants.{Descendant, DescendantOrSelf};
 
 use axes::{holds, in_second, is_reverse, nth, passes_test, principal};
 use basics::{both, either, same};
@@ -57,7 +57,7 @@ fn list_by_scan(table: &[u32], axis: usize, test: usize, x: usize, list: &mut [u
 // Those of the descendant axis: the rows after x in its subtree.
 fn list_descendants(table: &[u32], test: usize, x: usize, list: &mut [u16]) -> usize
     requires { (rows table.now ≤ most_rows) × (x < 4294967296) × (rows table.now ≤ length list.old) }
-    ensures { (take result list.new ≡ candidates 2 table.now descendant (test_of test) x) × (result ≤ rows table.now) }
+    ensures { (take result list.new ≡ candidates 2 table.now Descendant (test_of test) x) × (result ≤ rows table.now) }
 {
     let past = past_subtree(table, x);
     list_range(table, x, test, x + 1, past, list)
@@ -66,7 +66,7 @@ fn list_descendants(table: &[u32], test: usize, x: usize, list: &mut [u16]) -> u
 // Those of the descendant-or-self axis: the same, and x before them.
 fn list_subtree(table: &[u32], test: usize, x: usize, list: &mut [u16]) -> usize
     requires { (rows table.now ≤ most_rows) × (x < 4294967296) × (rows table.now ≤ length list.old) }
-    ensures { (take result list.new ≡ candidates 2 table.now descendant_or_self (test_of test) x) × (result ≤ rows table.now) }
+    ensures { (take result list.new ≡ candidates 2 table.now DescendantOrSelf (test_of test) x) × (result ≤ rows table.now) }
 {
     let past = past_subtree(table, x);
     list_range(table, x, test, x, past, list)

@@ -9,8 +9,9 @@ use lib.Dec.{T, leb, eqb, leb→le, eqb→eq}
 use lib.Ieee.{Float}
 use native.Mathlib.Omega.{arith}
 use borrow.Author.Tests.{ne_eqb}
-use Rattle.meaning.specs.Rows.{Op, code, op_of, is_number}
-use Rattle.meaning.specs.Rows as R
+use Rattle.meaning.specs.Rows.{code, op_of, is_number}
+use Rattle.meaning.specs.declared.Op.{Op}
+use Rattle.meaning.specs.declared.Op.TheVariants.{Absolute, Add, And, Count, Divide, Equal, Exists, Greater, GreaterEqual, Last, Less, LessEqual, Literal, Multiply, Negate, Negation, Or, Position, Predicate, Relative, Remainder, Step, Subtract, TruthOf, Unequal, Unknown}
 use Rattle.meaning.specs.Meaning.{applied, holds, truth_of}
 use Rattle.meaning.specs.Turning.{contextual, over_path}
 use Rattle.meaning.specs.declared.Value.{Value}
@@ -51,32 +52,32 @@ module _ (literals : List Float) (i : ℕ) (u v u' v' : Value) (n n' : ℕ) (x x
       → (contextual op ≡ true → x ≡ x')
       → applied literals op i u v n x ≡ applied literals op i u' v' n' x'
   unfolding applied takes_first takes_second over_path contextual code
-  applied_agrees R.literal f s p c = refl
-  applied_agrees R.position f s p c = rw (c refl)
-  applied_agrees R.last f s p c = rw (c refl)
-  applied_agrees R.add f s p c = rw (f refl, s refl)
-  applied_agrees R.subtract f s p c = rw (f refl, s refl)
-  applied_agrees R.multiply f s p c = rw (f refl, s refl)
-  applied_agrees R.divide f s p c = rw (f refl, s refl)
-  applied_agrees R.remainder f s p c = rw (f refl, s refl)
-  applied_agrees R.negate f s p c = rw (f refl)
-  applied_agrees R.equal f s p c = rw (f refl, s refl)
-  applied_agrees R.unequal f s p c = rw (f refl, s refl)
-  applied_agrees R.less f s p c = rw (f refl, s refl)
-  applied_agrees R.less_equal f s p c = rw (f refl, s refl)
-  applied_agrees R.greater f s p c = rw (f refl, s refl)
-  applied_agrees R.greater_equal f s p c = rw (f refl, s refl)
-  applied_agrees R.and f s p c = rw (f refl, s refl)
-  applied_agrees R.or f s p c = rw (f refl, s refl)
-  applied_agrees R.negation f s p c = rw (f refl)
-  applied_agrees R.truth f s p c = rw (f refl)
-  applied_agrees R.exists f s p c = rw (p refl)
-  applied_agrees R.count f s p c = rw (p refl)
-  applied_agrees R.relative f s p c = refl
-  applied_agrees R.absolute f s p c = refl
-  applied_agrees R.step f s p c = refl
-  applied_agrees R.predicate f s p c = refl
-  applied_agrees R.unknown f s p c = refl
+  applied_agrees Literal f s p c = refl
+  applied_agrees Position f s p c = rw (c refl)
+  applied_agrees Last f s p c = rw (c refl)
+  applied_agrees Add f s p c = rw (f refl, s refl)
+  applied_agrees Subtract f s p c = rw (f refl, s refl)
+  applied_agrees Multiply f s p c = rw (f refl, s refl)
+  applied_agrees Divide f s p c = rw (f refl, s refl)
+  applied_agrees Remainder f s p c = rw (f refl, s refl)
+  applied_agrees Negate f s p c = rw (f refl)
+  applied_agrees Equal f s p c = rw (f refl, s refl)
+  applied_agrees Unequal f s p c = rw (f refl, s refl)
+  applied_agrees Less f s p c = rw (f refl, s refl)
+  applied_agrees LessEqual f s p c = rw (f refl, s refl)
+  applied_agrees Greater f s p c = rw (f refl, s refl)
+  applied_agrees GreaterEqual f s p c = rw (f refl, s refl)
+  applied_agrees And f s p c = rw (f refl, s refl)
+  applied_agrees Or f s p c = rw (f refl, s refl)
+  applied_agrees Negation f s p c = rw (f refl)
+  applied_agrees TruthOf f s p c = rw (f refl)
+  applied_agrees Exists f s p c = rw (p refl)
+  applied_agrees Count f s p c = rw (p refl)
+  applied_agrees Relative f s p c = refl
+  applied_agrees Absolute f s p c = refl
+  applied_agrees Step f s p c = refl
+  applied_agrees Predicate f s p c = refl
+  applied_agrees Unknown f s p c = refl
 
 -- an op is told by its number
 named : (op : Op) (k : ℕ) → T (eqb (code op) k) → op ≡ op_of k
@@ -94,29 +95,29 @@ module _ (literals : List Float) (i : ℕ) (u v : Value) (n : ℕ) (x : Context)
   -- a value of an op that is not a number is a truth, whatever the position
   pub applied_truth : (op : Op) → is_number op ≡ false → holds (applied literals op i u v n x) p ≡ truth_of (applied literals op i u v n x)
   unfolding applied is_number code
-  applied_truth R.literal h = absurd (true≢false h)
-  applied_truth R.position h = absurd (true≢false h)
-  applied_truth R.last h = absurd (true≢false h)
-  applied_truth R.add h = absurd (true≢false h)
-  applied_truth R.subtract h = absurd (true≢false h)
-  applied_truth R.multiply h = absurd (true≢false h)
-  applied_truth R.divide h = absurd (true≢false h)
-  applied_truth R.remainder h = absurd (true≢false h)
-  applied_truth R.negate h = absurd (true≢false h)
-  applied_truth R.equal h = refl
-  applied_truth R.unequal h = refl
-  applied_truth R.less h = refl
-  applied_truth R.less_equal h = refl
-  applied_truth R.greater h = refl
-  applied_truth R.greater_equal h = refl
-  applied_truth R.and h = refl
-  applied_truth R.or h = refl
-  applied_truth R.negation h = refl
-  applied_truth R.truth h = refl
-  applied_truth R.exists h = refl
-  applied_truth R.count h = absurd (true≢false h)
-  applied_truth R.relative h = refl
-  applied_truth R.absolute h = refl
-  applied_truth R.step h = refl
-  applied_truth R.predicate h = refl
-  applied_truth R.unknown h = refl
+  applied_truth Literal h = absurd (true≢false h)
+  applied_truth Position h = absurd (true≢false h)
+  applied_truth Last h = absurd (true≢false h)
+  applied_truth Add h = absurd (true≢false h)
+  applied_truth Subtract h = absurd (true≢false h)
+  applied_truth Multiply h = absurd (true≢false h)
+  applied_truth Divide h = absurd (true≢false h)
+  applied_truth Remainder h = absurd (true≢false h)
+  applied_truth Negate h = absurd (true≢false h)
+  applied_truth Equal h = refl
+  applied_truth Unequal h = refl
+  applied_truth Less h = refl
+  applied_truth LessEqual h = refl
+  applied_truth Greater h = refl
+  applied_truth GreaterEqual h = refl
+  applied_truth And h = refl
+  applied_truth Or h = refl
+  applied_truth Negation h = refl
+  applied_truth TruthOf h = refl
+  applied_truth Exists h = refl
+  applied_truth Count h = absurd (true≢false h)
+  applied_truth Relative h = refl
+  applied_truth Absolute h = refl
+  applied_truth Step h = refl
+  applied_truth Predicate h = refl
+  applied_truth Unknown h = refl

@@ -13,14 +13,15 @@ use lib.Ieee.{Float}
 use native.Mathlib.Omega.{arith}
 use Rattle.meaning.specs.Lists.{keep, some, has, up_to, place_from}
 use Rattle.meaning.specs.Table.{kind, parent_of, rows, end, is_attribute, accepted}
-use Rattle.meaning.specs.Axis.{Axis, axis_of, test_of, under, inside, after, on, is_reverse, ordered, axis_nodes, place, principal, candidates, passes}
-use Rattle.meaning.specs.Axis as A
+use Rattle.meaning.specs.Axis.{axis_of, test_of, under, inside, after, on, is_reverse, ordered, axis_nodes, place, principal, candidates, passes}
+use Rattle.meaning.specs.declared.Axis.{Axis}
+use Rattle.meaning.specs.declared.Axis.TheVariants.{Ancestor, AncestorOrSelf, Attribute, Child, Descendant, DescendantOrSelf, Following, FollowingSibling, Itself, Parent, Preceding, PrecedingSibling}
 use Rattle.meaning.specs.Tree.{Tree, none, node}
 use Rattle.meaning.specs.Meaning.{union, walk, filtered}
 use Rattle.meaning.specs.Turning.{some_step, is_of_attributes, of_attributes}
 use Rattle.meaning.proofs.Bools.{and_l, and_r, or_e, or_none_l, or_none_r, is_true, is_false, not_e, lt_or_ge, eq_or_ne}
 use Rattle.meaning.proofs.Lists.{some_to, has_keep_to, has_up_to_to, length_up_to, up_to_at, keep_slice, keep_each, keep_at_among, order_monotone, place_kept}
-use Rattle.meaning.proofs.Tables.{Plain, Child, child, root_kind, root_holds, whole, some_row}
+use Rattle.meaning.proofs.Tables.{Plain, ChildRow, child, root_kind, root_holds, whole, some_row}
 use Rattle.meaning.proofs.DataModel.{attribute_parts, attribute_of, inner, holder, element_plain, among_row, among}
 use Rattle.meaning.proofs.Decoding.{principal_kind}
 use Rattle.meaning.proofs.Places.{placed, placed_on, candidate_is}
@@ -66,26 +67,26 @@ module _ (t : List ℕ) (acc : accepted t ≡ true) where
   -- every other axis leads from a node that is no attribute to such nodes alone
   pub stays_plain : (a : Axis) → principal a ≡ 1 → (x y : ℕ) → Plain t x → T (on t a x y) → is_attribute t y ≡ false
   unfolding on under principal
-  stays_plain A.self u x y h k = let e : x ≡ y = eqb→eq x y k in rw (← e) h.1
-  stays_plain A.child u x y h k = is_false (is_attribute t y) (not_e (is_attribute t y) (and_r (under t x y) (not (is_attribute t y)) k))
-  stays_plain A.parent u x y h k =
+  stays_plain Itself u x y h k = let e : x ≡ y = eqb→eq x y k in rw (← e) h.1
+  stays_plain Child u x y h k = is_false (is_attribute t y) (not_e (is_attribute t y) (and_r (under t x y) (not (is_attribute t y)) k))
+  stays_plain Parent u x y h k =
       let p : 0 < x = ltb→lt 0 x (and_l (ltb 0 x) (eqb (parent_of t x) y) k) in
       let e : parent_of t x ≡ y = eqb→eq (parent_of t x) y (and_r (ltb 0 x) (eqb (parent_of t x) y) k) in
-      let c : Child t x = child t acc x p h.0 in
+      let c : ChildRow t x = child t acc x p h.0 in
       rw (← e) (holder_plain (parent_of t x) (omega (arith, c.below, h.0)) (omega (arith, c.below, c.reached)))
-  stays_plain A.descendant u x y h k = is_false (is_attribute t y) (not_e (is_attribute t y) (and_r (inside t x y) (not (is_attribute t y)) k))
-  stays_plain A.ancestor u x y h k = inside_plain x y h.0 k
-  stays_plain A.descendant_or_self u x y h k = or_e (eqb x y) (inside t x y && not (is_attribute t y)) k
+  stays_plain Descendant u x y h k = is_false (is_attribute t y) (not_e (is_attribute t y) (and_r (inside t x y) (not (is_attribute t y)) k))
+  stays_plain Ancestor u x y h k = inside_plain x y h.0 k
+  stays_plain DescendantOrSelf u x y h k = or_e (eqb x y) (inside t x y && not (is_attribute t y)) k
       (λ m. let e : x ≡ y = eqb→eq x y m in rw (← e) h.1)
       (λ m. is_false (is_attribute t y) (not_e (is_attribute t y) (and_r (inside t x y) (not (is_attribute t y)) m)))
-  stays_plain A.ancestor_or_self u x y h k = or_e (eqb x y) (inside t y x) k
+  stays_plain AncestorOrSelf u x y h k = or_e (eqb x y) (inside t y x) k
       (λ m. let e : x ≡ y = eqb→eq x y m in rw (← e) h.1)
       (λ m. inside_plain x y h.0 m)
-  stays_plain A.following u x y h k = is_false (is_attribute t y) (not_e (is_attribute t y) (and_r (after t x y) (not (is_attribute t y)) k))
-  stays_plain A.preceding u x y h k = is_false (is_attribute t y) (not_e (is_attribute t y) (and_r (after t y x) (not (is_attribute t y)) k))
-  stays_plain A.following_sibling u x y h k = let n : T (not (is_attribute t y)) = search (and_l, and_r) in is_false (is_attribute t y) (not_e (is_attribute t y) n)
-  stays_plain A.preceding_sibling u x y h k = let n : T (not (is_attribute t y)) = search (and_l, and_r) in is_false (is_attribute t y) (not_e (is_attribute t y) n)
-  stays_plain A.attribute u x y h k = absurd (omega arith)
+  stays_plain Following u x y h k = is_false (is_attribute t y) (not_e (is_attribute t y) (and_r (after t x y) (not (is_attribute t y)) k))
+  stays_plain Preceding u x y h k = is_false (is_attribute t y) (not_e (is_attribute t y) (and_r (after t y x) (not (is_attribute t y)) k))
+  stays_plain FollowingSibling u x y h k = let n : T (not (is_attribute t y)) = search (and_l, and_r) in is_false (is_attribute t y) (not_e (is_attribute t y) n)
+  stays_plain PrecedingSibling u x y h k = let n : T (not (is_attribute t y)) = search (and_l, and_r) in is_false (is_attribute t y) (not_e (is_attribute t y) n)
+  stays_plain Attribute u x y h k = absurd (omega arith)
 
   -- a walk from nodes that are no attributes, without a step on the attribute axis, meets none, whatever its predicates count
   pub walk_stays_plain : (edition : ℕ) (literals : List Float) (s : Tree) → of_attributes s ≡ false → (set : List ℕ) → ((x : ℕ) → T (has set x) → Plain t x)
@@ -109,7 +110,7 @@ module _ (t : List ℕ) (acc : accepted t ≡ true) where
   -- ---- where attributes stand
 
   -- the rows from an element to one of its attributes are its attributes
-  attributes_run : (x y z : ℕ) → y < rows t → T (on t A.attribute x y) → x < z → z ≤ y → T (on t A.attribute x z)
+  attributes_run : (x y z : ℕ) → y < rows t → T (on t Attribute x y) → x < z → z ≤ y → T (on t Attribute x z)
   attributes_run x zero z l h p q = absurd (omega arith)
   attributes_run x (suc y) z l h p q = elim (eq_or_ne z (suc y)) [
     | inl e ↦ rw e h
@@ -120,11 +121,11 @@ module _ (t : List ℕ) (acc : accepted t ≡ true) where
   ]
 
   -- so an attribute's place is how far it stands from its element
-  pub attribute_place : (x y : ℕ) → y < rows t → T (on t A.attribute x y) → place t A.attribute x y ≡ y - x
+  pub attribute_place : (x y : ℕ) → y < rows t → T (on t Attribute x y) → place t Attribute x y ≡ y - x
   unfolding place axis_nodes is_reverse ordered
   attribute_place x y l h =
       let n : ℕ = rows t in
-      let p : ℕ → Bool = on t A.attribute x in
+      let p : ℕ → Bool = on t Attribute x in
       let front : List ℕ = take y (up_to n) in
       let long : length front ≡ y = length-take y (up_to n) ∙ rw (length_up_to n) (omega arith) in
       let at : (i : ℕ) → i < y → get_or front i 0 ≡ i = λ i k. get_or-take y (up_to n) i 0 k ∙ sym (up_to_at n i (omega arith)) in

@@ -14,8 +14,9 @@ use borrow.Author.Tests.{lt-ltb, ne_eqb}
 use Rattle.meaning.specs.Lists.{keep, some, up_to}
 use Rattle.meaning.specs.Table.{rows}
 use Rattle.meaning.specs.Axis.{axis_of, test_of, on, principal}
-use Rattle.meaning.specs.Rows.{Op, code, op_of, field, first_link, second_link}
-use Rattle.meaning.specs.Rows as R
+use Rattle.meaning.specs.declared.Op.{Op}
+use Rattle.meaning.specs.declared.Op.TheVariants.{And, Exists, Negation, Or}
+use Rattle.meaning.specs.Rows.{code, op_of, field, first_link, second_link}
 use Rattle.meaning.specs.Tree.{Tree, none, node, tree, index_or_axis, test_at}
 use Rattle.meaning.specs.Meaning.{applied, is_absolute, start_of, value, select, walk}
 use Rattle.meaning.specs.Turning.{counting, counts, some_step}
@@ -98,19 +99,19 @@ module _ (edition : ℕ) (t : List ℕ) (literals : List Float) where
 
   module _ (a b : Tree) (c d y : ℕ) where
     -- and, or, not: by their operands; existence: by what the path selects
-    pub true_and : true_at edition t literals (node R.and a b c d) y ≡ (true_at edition t literals a y && true_at edition t literals b y)
+    pub true_and : true_at edition t literals (node And a b c d) y ≡ (true_at edition t literals a y && true_at edition t literals b y)
     unfolding value applied
     true_and = refl
 
-    pub true_or : true_at edition t literals (node R.or a b c d) y ≡ (true_at edition t literals a y || true_at edition t literals b y)
+    pub true_or : true_at edition t literals (node Or a b c d) y ≡ (true_at edition t literals a y || true_at edition t literals b y)
     unfolding value applied
     true_or = refl
 
-    pub true_not : true_at edition t literals (node R.negation a b c d) y ≡ not (true_at edition t literals a y)
+    pub true_not : true_at edition t literals (node Negation a b c d) y ≡ not (true_at edition t literals a y)
     unfolding value applied
     true_not = refl
 
-    pub true_exists : true_at edition t literals (node R.exists a b c d) y ≡ ltb 0 (length (select edition t literals a y))
+    pub true_exists : true_at edition t literals (node Exists a b c d) y ≡ ltb 0 (length (select edition t literals a y))
     unfolding value applied
     true_exists = refl
 

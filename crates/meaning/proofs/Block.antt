@@ -13,7 +13,8 @@ use native.Mathlib.Omega.{arith}
 use native.Mathlib.Nat.{eq-or-lt_of_le}
 use borrow.Author.Tests.{le-leb, ne_eqb, eq-eqb}
 use Rattle.meaning.specs.Lists.{up_to}
-use Rattle.meaning.specs.Rows.{Op, op_of, op_at, fields_of, is_link, is_path, is_unknown, good_fields, first_link, second_link, links, linked_below, links_again, misplaced, broken_row, rows_of, path_length_allowed, most_path_rows}
+use Rattle.meaning.specs.Rows.{op_of, op_at, fields_of, is_link, is_path, is_unknown, good_fields, first_link, second_link, links, linked_below, links_again, misplaced, broken_row, rows_of, path_length_allowed, most_path_rows}
+use Rattle.meaning.specs.declared.Op.{Op}
 use Rattle.meaning.specs.Tree.{Tree, none, node, depth, most_depth}
 use Rattle.meaning.specs.Turning.{weight, link, written}
 use Rattle.meaning.proofs.Bools.{is_true, or_i_l, or_i_r, eq→eqb, lt_or_ge}

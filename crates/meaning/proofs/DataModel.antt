@@ -14,24 +14,26 @@ use borrow.Author.Tests.{le-ltb}
 use Rattle.meaning.specs.Lists.{up_to, keep, some, lowest}
 use Rattle.meaning.specs.Table.{kind, parent_of, name, size, rows, end, is_element, is_text, is_attribute, has_element, good_root, good_size, good_row, text_of_root, element_of_root, later_element, sibling_before, previous_sibling, text_after_text, among_attributes, stray_attribute, same_attribute, attribute_again, accepted}
 use Rattle.meaning.specs.Axis.{under, on, ordered, is_reverse, axis_nodes, place, principal, passes, candidates}
-use Rattle.meaning.specs.Axis as A
+use Rattle.meaning.specs.declared.Axis.TheVariants.{Attribute, Child, PrecedingSibling}
+use Rattle.meaning.specs.declared.Test.{Test}
+use Rattle.meaning.specs.declared.Test.TheVariants.{Star, Text}
 use Rattle.meaning.proofs.Bools.{and_l, and_r, and_i, or_e, is_true, is_false, truly, untrue, not_e, not_false, eq→eqb, lt_or_ge, eq_or_ne}
 use Rattle.meaning.proofs.Lists.{IsLowest, lowest_found, some_from, has_up_to_from, none_below, up_to_at, length_up_to, keep_keep, keep_none, keep_all, place_largest}
 use Rattle.meaning.proofs.Ranges.{range, keep_range, range_length}
-use Rattle.meaning.proofs.Tables.{Sound, root_kind, root_holds, row_holds, Child, good_child_lem, whole, some_row}
+use Rattle.meaning.proofs.Tables.{Sound, root_kind, root_holds, row_holds, ChildRow, good_child_lem, whole, some_row}
 
 -- an element is no attribute
 pub element_plain : (t : List ℕ) (i : ℕ) → T (is_element t i) → is_attribute t i ≡ false
 element_plain t i e = rw (eqb→eq (kind t i) 1 e)
 
 -- what lies on the attribute axis is not row 0, has x for its parent and is an attribute; and such a row lies there
-pub attribute_parts : (t : List ℕ) (x y : ℕ) → T (on t A.attribute x y) → (0 < y) × (parent_of t y ≡ x) × T (is_attribute t y)
+pub attribute_parts : (t : List ℕ) (x y : ℕ) → T (on t Attribute x y) → (0 < y) × (parent_of t y ≡ x) × T (is_attribute t y)
 unfolding on under
 attribute_parts t x y h =
     let u : T (under t x y) = and_l (under t x y) (is_attribute t y) h in
     (ltb→lt 0 y (and_l (ltb 0 y) (eqb (parent_of t y) x) u), eqb→eq (parent_of t y) x (and_r (ltb 0 y) (eqb (parent_of t y) x) u), and_r (under t x y) (is_attribute t y) h)
 
-pub attribute_of : (t : List ℕ) (x y : ℕ) → 0 < y → parent_of t y ≡ x → T (is_attribute t y) → T (on t A.attribute x y)
+pub attribute_of : (t : List ℕ) (x y : ℕ) → 0 < y → parent_of t y ≡ x → T (is_attribute t y) → T (on t Attribute x y)
 unfolding on under
 attribute_of t x y p e a = and_i (under t x y) (is_attribute t y) (and_i (ltb 0 y) (eqb (parent_of t y) x) (lt→ltb 0 y p) (eq→eqb (parent_of t y) x e)) a
 
@@ -68,7 +70,7 @@ module _ (t : List ℕ) (n : ℕ) (sound : Sound t n) where
   unfolding element_of_root
   first_of_root i l e first =
       let p : 0 < i = inner i 0 l (eqb→eq (kind t i) 1 e) in
-      let c : Child t i = good_child_lem t i (row_holds t n sound i p l) in
+      let c : ChildRow t i = good_child_lem t i (row_holds t n sound i p l) in
       and_i (is_element t i) (eqb (parent_of t i) 0) e (eq→eqb (parent_of t i) 0 (elim (lt_or_ge 0 (parent_of t i)) [
         | inr z ↦ omega arith
         | inl q ↦ absurd (untrue (first (parent_of t i) c.below) (holder (parent_of t i) q (omega (arith, c.below)) (omega (arith, c.below, c.reached))))
@@ -103,7 +105,7 @@ module _ (t : List ℕ) (n : ℕ) (sound : Sound t n) where
 
 module _ (t : List ℕ) (acc : accepted t ≡ true) where
   -- the attribute axis is empty but for elements
-  pub attributes_of_elements : (x y : ℕ) → y < rows t → T (on t A.attribute x y) → T (is_element t x)
+  pub attributes_of_elements : (x y : ℕ) → y < rows t → T (on t Attribute x y) → T (is_element t x)
   attributes_of_elements x y l h =
       let r = attribute_parts t x y h in
       rw (← r.1) (among_element t (rows t) (whole t acc) y r.0 (omega arith) (among t (rows t) (whole t acc) y l r.2))
@@ -116,14 +118,14 @@ module _ (t : List ℕ) (acc : accepted t ≡ true) where
       (search (and_l, and_r), search (and_l, and_r), search (and_l, and_r), search (and_l, and_r))
 
   -- the children of the root that pass a test
-  of_root : (edition : ℕ) (u : A.Test) → candidates edition t A.child u 0 ≡ keep (λ y. on t A.child 0 y && passes edition t 1 u y) (up_to (rows t))
+  of_root : (edition : ℕ) (u : Test) → candidates edition t Child u 0 ≡ keep (λ y. on t Child 0 y && passes edition t 1 u y) (up_to (rows t))
   unfolding candidates axis_nodes is_reverse ordered principal
-  of_root edition u = keep_keep (on t A.child 0) (passes edition t 1 u) (up_to (rows t))
+  of_root edition u = keep_keep (on t Child 0) (passes edition t 1 u) (up_to (rows t))
 
   -- none is text
-  pub no_text_of_root : (edition : ℕ) → candidates edition t A.child A.text 0 ≡ []
+  pub no_text_of_root : (edition : ℕ) → candidates edition t Child Text 0 ≡ []
   unfolding on under passes text_of_root
-  no_text_of_root edition = of_root edition A.text ∙ keep_none (λ y. on t A.child 0 y && passes edition t 1 A.text y) (up_to (rows t)) (λ i h.
+  no_text_of_root edition = of_root edition Text ∙ keep_none (λ y. on t Child 0 y && passes edition t 1 Text y) (up_to (rows t)) (λ i h.
       let l : i < rows t = rw length_up_to at h in
       rw (← up_to_at (rows t) i l) (is_false (ltb 0 i && eqb (parent_of t i) 0 && not (is_attribute t i) && is_text t i) (λ b.
       let p : T (ltb 0 i) = search (and_l, and_r) in
@@ -140,18 +142,18 @@ module _ (t : List ℕ) (acc : accepted t ≡ true) where
       lowest_found (is_element t) (rows t) (is_true (has_element t) h)
 
   -- exactly one is an element, as `*` has it in edition 2
-  pub one_element_of_root : length (candidates 2 t A.child A.star 0) ≡ 1
+  pub one_element_of_root : length (candidates 2 t Child Star 0) ≡ 1
   unfolding on under passes element_of_root later_element
   one_element_of_root =
       let x : ℕ = lowest (is_element t) (rows t) in
       let q : T (element_of_root t x) = first_of_root t (rows t) (whole t acc) x first.below (truly first.holds) first.first in
-      let is : ℕ → Bool = λ y. on t A.child 0 y && passes 2 t 1 A.star y in
+      let is : ℕ → Bool = λ y. on t Child 0 y && passes 2 t 1 Star y in
       let p : T (ltb 0 x) = lt→ltb 0 x (inner t (rows t) (whole t acc) x 0 first.below (eqb→eq (kind t x) 1 (truly first.holds))) in
       let at_first : T (is x) = rw (is_true (ltb 0 x) p, is_true (eqb (parent_of t x) 0) (and_r (is_element t x) (eqb (parent_of t x) 0) q), element_plain t x (truly first.holds)) (truly first.holds) in
       rw (
-        of_root 2 A.star,
+        of_root 2 Star,
         keep_range (rows t) x (x + 1) (omega (arith, first.below)) is (λ y. true)
-            (λ y l. rw (first.first y l, and-false (on t A.child 0 y)))
+            (λ y l. rw (first.first y l, and-false (on t Child 0 y)))
             (λ y k l. is_false (is y) (λ b.
             let e : T (eqb (parent_of t y) 0) = search (and_l, and_r) in
             let r : T (is_element t y) = search (and_l, and_r) in
@@ -163,7 +165,7 @@ module _ (t : List ℕ) (acc : accepted t ≡ true) where
       (range_length (rows t) x (x + 1) (omega (arith, first.below)) ∙ omega arith)
 
   -- no two texts are neighbours as siblings: of a node and the first on its preceding-sibling axis one is no text
-  pub no_neighbour_texts : (i j : ℕ) → i < rows t → place t A.preceding_sibling i j ≡ 1 → (is_text t i && is_text t j) ≡ false
+  pub no_neighbour_texts : (i j : ℕ) → i < rows t → place t PrecedingSibling i j ≡ 1 → (is_text t i && is_text t j) ≡ false
   unfolding place axis_nodes on is_reverse ordered previous_sibling text_after_text
   no_neighbour_texts i j h e =
       let r = place_largest (sibling_before t i) (rows t) j e in
@@ -178,7 +180,7 @@ module _ (t : List ℕ) (acc : accepted t ≡ true) where
       (and_i (is_text t i) _ (and_l (is_text t i) (is_text t j) both) (some_from (λ j. previous_sibling t i j && is_text t j) (up_to i) j (rw (is_true (sibling_before t i j) b, alone) (and_r (is_text t i) (is_text t j) both)) (has_up_to_from i j (ltb→lt j i l)))))
 
   -- no two attributes of one element have one name
-  pub names_differ : (x y z : ℕ) → y < rows t → z < rows t → T (on t A.attribute x y) → T (on t A.attribute x z) → name t y ≡ name t z → y ≡ z
+  pub names_differ : (x y z : ℕ) → y < rows t → z < rows t → T (on t Attribute x y) → T (on t Attribute x z) → name t y ≡ name t z → y ≡ z
   unfolding attribute_again same_attribute
   names_differ x y z h k o q e = elim (lt_or_ge y z) [
     | inl l ↦ absurd (twice y z l k o q e)
@@ -188,7 +190,7 @@ module _ (t : List ℕ) (acc : accepted t ≡ true) where
     ]
   ]
     where
-      twice : (j i : ℕ) → j < i → i < rows t → T (on t A.attribute x j) → T (on t A.attribute x i) → name t j ≡ name t i → ⊥
+      twice : (j i : ℕ) → j < i → i < rows t → T (on t Attribute x j) → T (on t Attribute x i) → name t j ≡ name t i → ⊥
       twice j i l h o q e =
           let r = attribute_parts t x j o in
           let u = attribute_parts t x i q in

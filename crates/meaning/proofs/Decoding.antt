@@ -12,20 +12,24 @@ use native.Mathlib.Omega.{arith}
 use borrow.Author.Tests.{le-leb, lt-leb, ne_eqb, eqb-true, lt-ltb}
 use Rattle.meaning.specs.Lists.{up_to, some}
 use Rattle.meaning.specs.Axis.{axis_of, last_axis, is_reverse, principal, test_of}
+use Rattle.meaning.specs.declared.Axis.TheVariants.{Itself}
+use Rattle.meaning.specs.declared.Test.TheVariants.{Named}
+use Rattle.meaning.specs.declared.Op.{Op}
+use Rattle.meaning.specs.declared.Op.TheVariants.{Unknown}
 use Rattle.meaning.specs.Axis as A
-use Rattle.meaning.specs.Rows.{Op, code, op_of, fields_of, is_link, is_number, is_truth, is_path, is_step, is_predicate, is_unknown}
+use Rattle.meaning.specs.Rows.{code, op_of, fields_of, is_link, is_number, is_truth, is_path, is_step, is_predicate, is_unknown}
 use Rattle.meaning.specs.Rows as R
 use Rattle.meaning.proofs.Bools.{lt_or_ge}
 use Rattle.meaning.proofs.Lists.{below_none}
 
 -- a number above 25 is no op, and one above 11 reads as axis 0
-pub op_past : (n : ℕ) → 25 < n → op_of n ≡ R.unknown
+pub op_past : (n : ℕ) → 25 < n → op_of n ≡ Unknown
 unfolding op_of
-op_past n h = get_or-eq_default R.ops R.unknown h
+op_past n h = get_or-eq_default R.ops Unknown h
 
-pub axis_past : (n : ℕ) → 11 < n → axis_of n ≡ A.self
+pub axis_past : (n : ℕ) → 11 < n → axis_of n ≡ Itself
 unfolding axis_of
-axis_past n h = get_or-eq_default A.axes A.self h
+axis_past n h = get_or-eq_default A.axes Itself h
 
 -- a number from k on that is not k is above it
 pub past : (k n : ℕ) → k ≤ n → (n ≡ k → ⊥) → k < n
@@ -41,12 +45,12 @@ none_past zero n h f = h
 none_past (suc k) n h f = past (suc k) n (none_past k n h f.0) f.1
 
 -- an axis that is none of 1 to 11 reads as self
-pub axis_rest : (n : ℕ) → NoneOf 11 n → axis_of n ≡ A.self
+pub axis_rest : (n : ℕ) → NoneOf 11 n → axis_of n ≡ Itself
 axis_rest zero f = unfold axis_of in refl
 axis_rest (suc n) f = axis_past (suc n) (none_past 11 (suc n) (suc-le-suc zero-le) f)
 
 -- a test that is none of 0 to 4 asks for a name
-pub test_rest : (n : ℕ) → (n ≡ 0 → ⊥) → (n ≡ 1 → ⊥) → (n ≡ 2 → ⊥) → (n ≡ 3 → ⊥) → (n ≡ 4 → ⊥) → test_of n ≡ A.named (n - 16)
+pub test_rest : (n : ℕ) → (n ≡ 0 → ⊥) → (n ≡ 1 → ⊥) → (n ≡ 2 → ⊥) → (n ≡ 3 → ⊥) → (n ≡ 4 → ⊥) → test_of n ≡ Named (n - 16)
 unfolding test_of
 test_rest n n0 n1 n2 n3 n4 = rw (lt-leb n 4 (past 4 n (past 3 n (past 2 n (past 1 n (past 0 n zero-le n0) n1) n2) n3) n4))
 
@@ -73,10 +77,10 @@ code_of n h = eqb-true (code (op_of n)) n (alike (eqb (code (op_of n)) n) true
 pub op_is : (k n : ℕ) → 0 < k → k ≤ 25 → eqb (code (op_of n)) k ≡ eqb n k
 op_is k n p q = elim (lt_or_ge 25 n) [
   | inr l ↦ rw (code_of n l)
-  | inl l ↦ ap (λ (o : Op). eqb (code o) k) (op_past n l) ∙ ne_eqb (code R.unknown) k (λ e. omega (arith, unknown_code)) ∙ sym (ne_eqb n k (λ e. omega arith))
+  | inl l ↦ ap (λ (o : Op). eqb (code o) k) (op_past n l) ∙ ne_eqb (code Unknown) k (λ e. omega (arith, unknown_code)) ∙ sym (ne_eqb n k (λ e. omega arith))
 ]
   where
-    unknown_code : code R.unknown ≡ 0
+    unknown_code : code Unknown ≡ 0
     unknown_code = unfold code in refl
 
 -- which ops have a link in field a, and in field b

@@ -13,8 +13,10 @@ use lib.Ieee.{Float}
 use borrow.Author.Tests.{ne_eqb}
 use Rattle.meaning.specs.Lists.{keep}
 use Rattle.meaning.specs.Table.{rows, is_attribute}
-use Rattle.meaning.specs.Axis.{Axis, axis_of, under, on, is_reverse, ordered, axis_nodes, principal, test_of, passes, candidates}
-use Rattle.meaning.specs.Axis as A
+use Rattle.meaning.specs.Axis.{axis_of, under, on, is_reverse, ordered, axis_nodes, principal, test_of, passes, candidates}
+use Rattle.meaning.specs.declared.Axis.{Axis}
+use Rattle.meaning.specs.declared.Axis.TheVariants.{Attribute}
+use Rattle.meaning.specs.declared.Test.TheVariants.{Star}
 use Rattle.meaning.specs.Tree.{Tree, none, node}
 use Rattle.meaning.specs.Meaning.{float, holds, keep_at, start_of, union, value, select, walk, filtered}
 use Rattle.meaning.specs.declared.Context.{Context}
@@ -62,11 +64,11 @@ module _ (edition : ℕ) (t : List ℕ) where
   second_candidates a n x = ap (λ (p : ℕ → Bool). keep p (axis_nodes t a x)) (λ i y. second_passes (principal a) n y i)
 
   -- on the attribute axis `*` matches any attribute, whatever the edition
-  pub star_attributes : (x : ℕ) → candidates edition t A.attribute A.star x ≡ axis_nodes t A.attribute x
+  pub star_attributes : (x : ℕ) → candidates edition t Attribute Star x ≡ axis_nodes t Attribute x
   unfolding candidates axis_nodes on principal passes
   star_attributes x =
-      let l : List ℕ = ordered (is_reverse A.attribute) (rows t) in
-      keep_keep (on t A.attribute x) (passes edition t 5 A.star) l
+      let l : List ℕ = ordered (is_reverse Attribute) (rows t) in
+      keep_keep (on t Attribute x) (passes edition t 5 Star) l
       ∙ ap (λ (p : ℕ → Bool). keep p l) (λ i y. twice (under t x y) (is_attribute t y) (eqb edition 1) i)
     where
       twice : (u a e : Bool) → ((u && a) && (e || a)) ≡ (u && a)

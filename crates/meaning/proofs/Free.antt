@@ -9,8 +9,10 @@ use lib.ListN.{length}
 use lib.Ieee.{Float}
 use Rattle.meaning.specs.Lists.{keep, some, has, up_to}
 use Rattle.meaning.specs.Table.{rows}
-use Rattle.meaning.specs.Axis.{Axis, Test, axis_of, test_of, principal, passes, candidates}
-use Rattle.meaning.specs.Rows.{Op}
+use Rattle.meaning.specs.Axis.{axis_of, test_of, principal, passes, candidates}
+use Rattle.meaning.specs.declared.Axis.{Axis}
+use Rattle.meaning.specs.declared.Test.{Test}
+use Rattle.meaning.specs.declared.Op.{Op}
 use Rattle.meaning.specs.Tree.{Tree, none, node}
 use Rattle.meaning.specs.Meaning.{float, truth_of, holds, value, select, walk, filtered, union}
 use Rattle.meaning.specs.Turning.{contextual, over_path, numeric, asks, counting}

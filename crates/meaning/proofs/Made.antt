@@ -8,7 +8,9 @@ use mathlib.Core.List.{List, []}
 use lib.Dec.{T}
 use native.Mathlib.Omega.{arith}
 use borrow.Author.Tests.{ne_eqb, le-leb}
-use Rattle.meaning.specs.Rows.{Op, op_of, Field, op_at, field, fields_of, is_literal, is_unknown, is_link, may_miss, takes, good_link, good_field, good_fields, first_link, second_link, rows_of}
+use Rattle.meaning.specs.Rows.{op_of, op_at, field, fields_of, is_literal, is_unknown, is_link, may_miss, takes, good_link, good_field, good_fields, first_link, second_link, rows_of}
+use Rattle.meaning.specs.declared.Op.{Op}
+use Rattle.meaning.specs.declared.Field.{Field}
 use Rattle.meaning.specs.Tree.{Tree, none, node, index_or_axis, test_at, tree}
 use Rattle.meaning.specs.Answers.{path_tree}
 use Rattle.meaning.proofs.Trees.{first_le, second_le, tree_zero, tree_suc}

@@ -11,7 +11,8 @@ use lib.Ieee.{Float}
 use Rattle.meaning.specs.Lists.{some, up_to}
 use Rattle.meaning.specs.Table.{rows}
 use Rattle.meaning.specs.Axis.{axis_of, test_of, on, principal, passes}
-use Rattle.meaning.specs.Rows.{Op, first_link, second_link}
+use Rattle.meaning.specs.declared.Op.{Op}
+use Rattle.meaning.specs.Rows.{first_link, second_link}
 use Rattle.meaning.specs.Tree.{Tree, none, node, tree, index_or_axis, test_at}
 use Rattle.meaning.proofs.Bools.{truly, is_true}
 use Rattle.meaning.proofs.Lists.{some_from, has_up_to_from}

@@ -9,8 +9,11 @@ use lib.Dec.{T, eqb, eqb→eq}
 use native.Mathlib.Omega.{arith}
 use borrow.Author.Tests.{eqb-true}
 use Rattle.meaning.specs.Lists.{up_to, some}
-use Rattle.meaning.specs.Rows.{Op, Field, op_of, code, fields_of, is_literal, is_step, is_link, is_unknown, good_field, good_link, good_test}
-use Rattle.meaning.specs.Rows as R
+use Rattle.meaning.specs.Rows.{op_of, code, fields_of, is_literal, is_step, is_link, is_unknown, good_field, good_link, good_test}
+use Rattle.meaning.specs.declared.Op.{Op}
+use Rattle.meaning.specs.declared.Op.TheVariants.{Absolute, Add, And, Count, Divide, Equal, Exists, Greater, GreaterEqual, Last, Less, LessEqual, Literal, Multiply, Negate, Negation, Or, Position, Predicate, Relative, Remainder, Step, Subtract, TruthOf, Unequal, Unknown}
+use Rattle.meaning.specs.declared.Field.{Field}
+use Rattle.meaning.specs.declared.Field.TheVariants.{AxisNumber, ExpressionLink, LiteralIndex, NumberLink, PathLink, PredicateOrNone, StepLink, StepOrNone, TestNumber, TruthLink, Unused}
 use Rattle.meaning.proofs.Bools.{lt_or_ge, not_false}
 use Rattle.meaning.proofs.Lists.{below_none}
 use Rattle.meaning.proofs.Decoding.{op_past}
@@ -18,39 +21,39 @@ use Rattle.meaning.proofs.Decoding.{op_past}
 -- an op's number decodes to the op
 pub op_code : (op : Op) → op_of (code op) ≡ op
 unfolding op_of code
-op_code R.literal = refl
-op_code R.position = refl
-op_code R.last = refl
-op_code R.add = refl
-op_code R.subtract = refl
-op_code R.multiply = refl
-op_code R.divide = refl
-op_code R.remainder = refl
-op_code R.negate = refl
-op_code R.equal = refl
-op_code R.unequal = refl
-op_code R.less = refl
-op_code R.less_equal = refl
-op_code R.greater = refl
-op_code R.greater_equal = refl
-op_code R.and = refl
-op_code R.or = refl
-op_code R.negation = refl
-op_code R.truth = refl
-op_code R.exists = refl
-op_code R.count = refl
-op_code R.relative = refl
-op_code R.absolute = refl
-op_code R.step = refl
-op_code R.predicate = refl
-op_code R.unknown = refl
+op_code Literal = refl
+op_code Position = refl
+op_code Last = refl
+op_code Add = refl
+op_code Subtract = refl
+op_code Multiply = refl
+op_code Divide = refl
+op_code Remainder = refl
+op_code Negate = refl
+op_code Equal = refl
+op_code Unequal = refl
+op_code Less = refl
+op_code LessEqual = refl
+op_code Greater = refl
+op_code GreaterEqual = refl
+op_code And = refl
+op_code Or = refl
+op_code Negation = refl
+op_code TruthOf = refl
+op_code Exists = refl
+op_code Count = refl
+op_code Relative = refl
+op_code Absolute = refl
+op_code Step = refl
+op_code Predicate = refl
+op_code Unknown = refl
 
 code_small : (op : Op) → code op < 26
 code_small op = elim (lt_or_ge (code op) 26) [
   | inl l ↦ l
   | inr l ↦
-      let e : code op ≡ code R.unknown = ap code (sym (op_code op) ∙ op_past (code op) l) in
-      let z : code R.unknown ≡ 0 = unfold code in refl in
+      let e : code op ≡ code Unknown = ap code (sym (op_code op) ∙ op_past (code op) l) in
+      let z : code Unknown ≡ 0 = unfold code in refl in
       omega arith
 ]
 
@@ -67,7 +70,7 @@ code_op n h = elim (lt_or_ge n 26) [
 ]
 
 -- the op of a step
-pub step_is : (op : Op) → is_step op ≡ true → op ≡ R.step
+pub step_is : (op : Op) → is_step op ≡ true → op ≡ Step
 unfolding op_of is_step
 step_is op h = sym (op_code op) ∙ ap op_of (eqb-true (code op) 24 h)
 
@@ -98,17 +101,17 @@ fourth_links_nothing = every_op (λ op. is_link (fields_of op).d) refl
 -- a field that is no link does not look at the path
 pub field_by_kind : (p : List ℕ) (literals r : ℕ) (f : Field) (v : ℕ) → good_field p literals r f v ≡ cond (is_link f) (good_link p r f v) (good_field [] literals 0 f v)
 unfolding good_field is_link
-field_by_kind p literals r R.unused v = refl
-field_by_kind p literals r R.index v = refl
-field_by_kind p literals r R.axis v = refl
-field_by_kind p literals r R.test v = refl
-field_by_kind p literals r R.number_link v = refl
-field_by_kind p literals r R.truth_link v = refl
-field_by_kind p literals r R.expression_link v = refl
-field_by_kind p literals r R.path_link v = refl
-field_by_kind p literals r R.step_link v = refl
-field_by_kind p literals r R.step_or_none v = refl
-field_by_kind p literals r R.predicate_or_none v = refl
+field_by_kind p literals r Unused v = refl
+field_by_kind p literals r LiteralIndex v = refl
+field_by_kind p literals r AxisNumber v = refl
+field_by_kind p literals r TestNumber v = refl
+field_by_kind p literals r NumberLink v = refl
+field_by_kind p literals r TruthLink v = refl
+field_by_kind p literals r ExpressionLink v = refl
+field_by_kind p literals r PathLink v = refl
+field_by_kind p literals r StepLink v = refl
+field_by_kind p literals r StepOrNone v = refl
+field_by_kind p literals r PredicateOrNone v = refl
 
 -- may a field of this kind hold a number of its own? Then 1 is allowed there, as an axis, a test or the index of two literals
 unfoldable plain : Field → Bool
@@ -116,17 +119,17 @@ plain f = good_field [] 2 0 f 1
 
 plain_or_zero : (p : List ℕ) (literals r : ℕ) (f : Field) (v : ℕ) → is_link f ≡ false → plain f ≡ false → T (good_field p literals r f v) → v ≡ 0
 unfolding good_field is_link plain
-plain_or_zero p literals r R.unused v l h g = eqb→eq v 0 g
-plain_or_zero p literals r R.index v l h g = absurd (true≢false h)
-plain_or_zero p literals r R.axis v l h g = absurd (true≢false h)
-plain_or_zero p literals r R.test v l h g = absurd (true≢false (unfold good_test in h))
-plain_or_zero p literals r R.number_link v l h g = absurd (true≢false l)
-plain_or_zero p literals r R.truth_link v l h g = absurd (true≢false l)
-plain_or_zero p literals r R.expression_link v l h g = absurd (true≢false l)
-plain_or_zero p literals r R.path_link v l h g = absurd (true≢false l)
-plain_or_zero p literals r R.step_link v l h g = absurd (true≢false l)
-plain_or_zero p literals r R.step_or_none v l h g = absurd (true≢false l)
-plain_or_zero p literals r R.predicate_or_none v l h g = absurd (true≢false l)
+plain_or_zero p literals r Unused v l h g = eqb→eq v 0 g
+plain_or_zero p literals r LiteralIndex v l h g = absurd (true≢false h)
+plain_or_zero p literals r AxisNumber v l h g = absurd (true≢false h)
+plain_or_zero p literals r TestNumber v l h g = absurd (true≢false (unfold good_test in h))
+plain_or_zero p literals r NumberLink v l h g = absurd (true≢false l)
+plain_or_zero p literals r TruthLink v l h g = absurd (true≢false l)
+plain_or_zero p literals r ExpressionLink v l h g = absurd (true≢false l)
+plain_or_zero p literals r PathLink v l h g = absurd (true≢false l)
+plain_or_zero p literals r StepLink v l h g = absurd (true≢false l)
+plain_or_zero p literals r StepOrNone v l h g = absurd (true≢false l)
+plain_or_zero p literals r PredicateOrNone v l h g = absurd (true≢false l)
 
 module _ (p : List ℕ) (literals r : ℕ) (op : Op) (v : ℕ) where
   -- what an op does not use is 0

@@ -13,11 +13,12 @@ use native.Mathlib.Omega.{arith}
 use borrow.Author.Tests.{lt-ltb, le-ltb, eq-eqb, ne_eqb, le-leb}
 use Rattle.meaning.specs.Lists.{keep, some, up_to, has}
 use Rattle.meaning.specs.Table.{rows, end, is_attribute, accepted}
-use Rattle.meaning.specs.Axis.{Axis, axis_of, last_axis, inside, after, on, test_of, passes}
-use Rattle.meaning.specs.Axis as A
+use Rattle.meaning.specs.Axis.{axis_of, last_axis, inside, after, on, test_of, passes}
+use Rattle.meaning.specs.declared.Axis.{Axis}
+use Rattle.meaning.specs.declared.Axis.TheVariants.{Ancestor, AncestorOrSelf, Descendant, DescendantOrSelf, Following, Itself, Preceding}
+use Rattle.meaning.specs.declared.Op.TheVariants.{Relative, Step}
 use Rattle.meaning.specs.Answers.{answer, path_tree, path_checks, path_answer, is_edition, selected, evaluation, output, evaluated}
 use Rattle.meaning.specs.Rows.{path_length_allowed, op_of, fields_of, code, is_path, is_step, is_literal, is_unknown, is_link, takes, may_miss, good_link, good_test, good_field, good_fields, follow, first_link, second_link, links, linked_below, links_again, misplaced, broken_row}
-use Rattle.meaning.specs.Rows as R
 use Rattle.meaning.specs.Tree.{none, node, index_or_axis, test_at, linked, tree, depth}
 use Rattle.meaning.specs.Meaning.{is_absolute, start_of, select, walk}
 use Rattle.meaning.specs.Turning.{counting}
@@ -39,7 +40,7 @@ use Rattle.meaning.proofs.Checks.{path_accepted}
 abbrev pub five_parts : List ℕ
 five_parts = 0 ∷ 4 ∷ 3 ∷ 8 ∷ 7 ∷ []
 
-pub five_names : map axis_of five_parts ≡ A.self ∷ A.ancestor ∷ A.descendant ∷ A.preceding ∷ A.following ∷ []
+pub five_names : map axis_of five_parts ≡ Itself ∷ Ancestor ∷ Descendant ∷ Preceding ∷ Following ∷ []
 unfolding axis_of
 five_names = refl
 
@@ -72,11 +73,11 @@ five_parts_attribute t acc x y h a =
 
 -- the -or-self axis of an axis
 pub data OrSelf : Axis → Axis → Type 0 where
-  descendants : OrSelf A.descendant A.descendant_or_self
-  ancestors : OrSelf A.ancestor A.ancestor_or_self
+  descendants : OrSelf Descendant DescendantOrSelf
+  ancestors : OrSelf Ancestor AncestorOrSelf
 
 -- it is the union of self and that axis, on every table and for any two numbers
-pub or_self_is_union : {axis or_self : Axis} → OrSelf axis or_self → (t : List ℕ) (x y : ℕ) → on t or_self x y ≡ (on t A.self x y || on t axis x y)
+pub or_self_is_union : {axis or_self : Axis} → OrSelf axis or_self → (t : List ℕ) (x y : ℕ) → on t or_self x y ≡ (on t Itself x y || on t axis x y)
 unfolding on
 or_self_is_union descendants t x y = refl
 or_self_is_union ancestors t x y = refl
@@ -95,7 +96,7 @@ axis_path_good : (axis : ℕ) → axis ≤ last_axis → path_answer (axis_path 
 unfolding path_answer path_checks some up_to path_length_allowed op_of fields_of code is_path is_step is_unknown is_link takes may_miss good_link good_test good_field good_fields follow first_link second_link links linked_below links_again misplaced broken_row linked tree depth
 axis_path_good axis h = rw (le-leb axis last_axis h)
 
-axis_path_tree : (axis : ℕ) → path_tree (axis_path axis) ≡ node R.relative (node R.step none none axis 0) none 0 0
+axis_path_tree : (axis : ℕ) → path_tree (axis_path axis) ≡ node Relative (node Step none none axis 0) none 0 0
 unfolding tree op_of linked fields_of is_link is_literal is_step code follow first_link second_link index_or_axis test_at
 axis_path_tree axis = refl
 
@@ -105,7 +106,7 @@ module _ (edition : ℕ) (t : List ℕ) (axis x : ℕ) (below : x < rows t) wher
   unfolding select walk start_of is_absolute code counting test_of passes ok
   axis_path_selects =
       rw (axis_path_tree axis)
-      (free_walk edition t [] R.step none none axis 0 (keep (eqb x) (up_to (rows t))) refl
+      (free_walk edition t [] Step none none axis 0 (keep (eqb x) (up_to (rows t))) refl
       ∙ keep_up_to _ _ (rows t) (λ y l. some_one (λ z. placed t (axis_of axis) z y && true) (rows t) x below ∙ and-true (placed t (axis_of axis) x y)))
 
   module _ (known : is_edition edition ≡ true) (h : axis ≤ last_axis) (acc : accepted t ≡ true) (out : List ℕ) (room : rows t ≤ length out) where

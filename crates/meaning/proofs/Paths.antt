@@ -11,7 +11,9 @@ use native.Mathlib.Omega.{arith}
 use native.Mathlib.Nat.{eq-or-lt_of_le}
 use native.Mathlib.Numerals.{add-one}
 use borrow.Author.Tests.{ne_eqb, eq-eqb, lt-ltb}
-use Rattle.meaning.specs.Rows.{Op, Field, op_at, code, field, fields_of, is_literal, is_step, is_link, is_unknown, is_path, may_miss, takes, good_link, good_field, good_fields, follow, first_link, second_link, links, linked_below, links_again, misplaced, broken_row, rows_of, path_length_allowed}
+use Rattle.meaning.specs.Rows.{op_at, code, field, fields_of, is_literal, is_step, is_link, is_unknown, is_path, may_miss, takes, good_link, good_field, good_fields, follow, first_link, second_link, links, linked_below, links_again, misplaced, broken_row, rows_of, path_length_allowed}
+use Rattle.meaning.specs.declared.Op.{Op}
+use Rattle.meaning.specs.declared.Field.{Field}
 use Rattle.meaning.specs.Tree.{tree, index_or_axis, test_at}
 use Rattle.meaning.specs.Turning.{weight}
 use Rattle.meaning.specs.Answers.{path_tree}

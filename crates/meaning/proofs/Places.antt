@@ -12,9 +12,11 @@ use native.Mathlib.Omega.{arith}
 use borrow.Author.Tests.{ltb-true, ltb-false}
 use Rattle.meaning.specs.Lists.{keep, has, place_from}
 use Rattle.meaning.specs.Table.{rows, most_rows, accepted}
-use Rattle.meaning.specs.Axis.{Axis, Test, axis_of, last_axis, on, is_reverse, ordered, axis_nodes, place, principal, passes, candidates}
-use Rattle.meaning.specs.Axis as A
-use Rattle.meaning.specs.Rows.{Op}
+use Rattle.meaning.specs.Axis.{axis_of, last_axis, on, is_reverse, ordered, axis_nodes, place, principal, passes, candidates}
+use Rattle.meaning.specs.declared.Axis.{Axis}
+use Rattle.meaning.specs.declared.Test.{Test}
+use Rattle.meaning.specs.declared.Test.TheVariants.{AnyNode}
+use Rattle.meaning.specs.declared.Op.{Op}
 use Rattle.meaning.specs.Tree.{Tree, none, node}
 use Rattle.meaning.specs.Meaning.{float, holds, value, filtered}
 use Rattle.meaning.specs.Answers.{askable, axis_place}
@@ -81,13 +83,13 @@ module _ (edition : ℕ) (t : List ℕ) (a : Axis) (x : ℕ) where
   candidates_monotone u = keep_monotone (is_reverse a) (passes edition t (principal a) u) (axis_nodes t a x) (axis_monotone t a x)
 
   -- with test node() they are the nodes of the axis
-  pub any_candidates : candidates edition t a A.any_node x ≡ axis_nodes t a x
+  pub any_candidates : candidates edition t a AnyNode x ≡ axis_nodes t a x
   unfolding candidates passes
   any_candidates = keep_all (axis_nodes t a x)
 
   -- and what the first predicate of a step sees as a node's position is its place
   pub position_is_place : (literals : List Float) (op : Op) (b : Tree) (c d : ℕ)
-      → filtered edition t literals (node op none b c d) (candidates edition t a A.any_node x)
+      → filtered edition t literals (node op none b c d) (candidates edition t a AnyNode x)
       ≡ keep (λ y. holds (value edition t literals b (record { node = y; position = float (place t a x y); size = float (length (axis_nodes t a x)) })) (float (place t a x y))) (axis_nodes t a x)
   unfolding filtered place
   position_is_place literals op b c d = rw any_candidates (keep_at_places (is_reverse a) _ (axis_nodes t a x) (axis_monotone t a x) 1)

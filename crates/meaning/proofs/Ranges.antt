@@ -14,6 +14,7 @@ use borrow.Author.Tests.{eq-eqb, ne_eqb, lt-ltb, le-ltb, le-leb, lt-leb}
 use Rattle.meaning.specs.Lists.{up_to, keep}
 use Rattle.meaning.specs.Table.{rows, end, is_attribute}
 use Rattle.meaning.specs.Axis.{inside, on, ordered, axis_nodes}
+use Rattle.meaning.specs.declared.Axis.TheVariants.{Descendant, DescendantOrSelf}
 use Rattle.meaning.specs.Axis as A
 use Rattle.meaning.proofs.Bools.{eq_or_ne}
 use Rattle.meaning.proofs.Lists.{keep_slice, keep_entries, length_up_to, up_to_at}
@@ -85,19 +86,19 @@ own_or_plain t x y = eqb x y || not (is_attribute t y)
 -- a subtree's rows end where its size says, or with the table; of them x itself and those that are no attributes are on its axes
 module _ (t : List ℕ) (x to : ℕ) (is-to : to ≡ min (rows t) (end t x + 1)) where
   -- the descendants of x are the rows after it
-  pub descendants_range : axis_nodes t A.descendant x ≡ keep (own_or_plain t x) (range (rows t) (x + 1) to)
+  pub descendants_range : axis_nodes t Descendant x ≡ keep (own_or_plain t x) (range (rows t) (x + 1) to)
   unfolding axis_nodes on inside A.is_reverse ordered
   descendants_range =
-      keep_range (rows t) (x + 1) to (omega arith) (on t A.descendant x) (own_or_plain t x)
+      keep_range (rows t) (x + 1) to (omega arith) (on t Descendant x) (own_or_plain t x)
       (λ y h. rw (le-ltb x y (omega arith)))
       (λ y h k. rw (lt-leb y (end t x) (omega arith), and-false (ltb x y)))
       (λ y h k. rw (ne_eqb x y (λ e. omega arith), lt-ltb x y (omega arith), le-leb y (end t x) (omega arith)))
 
   -- with x itself, from it on
-  pub subtree_range : axis_nodes t A.descendant_or_self x ≡ keep (own_or_plain t x) (range (rows t) x to)
+  pub subtree_range : axis_nodes t DescendantOrSelf x ≡ keep (own_or_plain t x) (range (rows t) x to)
   unfolding axis_nodes on inside A.is_reverse ordered
   subtree_range =
-      keep_range (rows t) x to (omega arith) (on t A.descendant_or_self x) (own_or_plain t x)
+      keep_range (rows t) x to (omega arith) (on t DescendantOrSelf x) (own_or_plain t x)
       (λ y h. rw (ne_eqb x y (λ e. omega arith), le-ltb x y (omega arith)))
       (λ y h k. rw (ne_eqb x y (λ e. omega arith), lt-leb y (end t x) (omega arith), and-false (ltb x y)))
       (λ y h k. ⊎_elim

@@ -8,7 +8,8 @@ use mathlib.Core.List.{List, [], ◌++◌, append_assoc, append-nil}
 use lib.ListN.{length, get_or, length-append}
 use lib.Seq.{get_or-append-add}
 use native.Mathlib.Omega.{arith}
-use Rattle.meaning.specs.Rows.{Op, op_of, op_at, field, fields_of, is_literal, is_step, is_link, follow, first_link, second_link, rows_of}
+use Rattle.meaning.specs.Rows.{op_of, op_at, field, fields_of, is_literal, is_step, is_link, follow, first_link, second_link, rows_of}
+use Rattle.meaning.specs.declared.Op.{Op}
 use Rattle.meaning.specs.Tree.{Tree, none, node, index_or_axis, test_at, linked, tree}
 use Rattle.meaning.specs.Turning.{weight, link, row, written}
 use Rattle.meaning.proofs.Trees.{follow_in, tree_zero, tree_suc}

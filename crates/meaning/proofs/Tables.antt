@@ -16,7 +16,7 @@ use Rattle.meaning.proofs.Bools.{and_l, and_r, and_i, truly, is_false, not_false
 use Rattle.meaning.proofs.Lists.{below_none, some_from, has_up_to_from}
 
 -- what acceptance says of a row that is not the root
-pub record Child (t : List ℕ) (i : ℕ) : Type 0 where
+pub record ChildRow (t : List ℕ) (i : ℕ) : Type 0 where
   pub below : parent_of t i < i
   pub reached : i ≤ end t (parent_of t i)
   pub within : end t i ≤ end t (parent_of t i)
@@ -35,7 +35,7 @@ pub good_parent_lem : (t : List ℕ) (i : ℕ) → T (good_row t i) → T (good_
 unfolding good_row
 good_parent_lem t i g = search (and_l, and_r) depth 9
 
-pub parent_child : (t : List ℕ) (i : ℕ) → T (good_parent t i) → Child t i
+pub parent_child : (t : List ℕ) (i : ℕ) → T (good_parent t i) → ChildRow t i
 unfolding good_parent nearest
 parent_child t i p =
     let b : T (ltb (parent_of t i) i) = search (and_l, and_r) in
@@ -49,7 +49,7 @@ parent_child t i p =
       largest = nearest_largest t i (parent_of t i) n;
     }
 
-pub good_child_lem : (t : List ℕ) (i : ℕ) → T (good_row t i) → Child t i
+pub good_child_lem : (t : List ℕ) (i : ℕ) → T (good_row t i) → ChildRow t i
 good_child_lem t i g = parent_child t i (good_parent_lem t i g)
 
 -- the root has kind 0
@@ -117,7 +117,7 @@ module _ (t : List ℕ) (acc : accepted t ≡ true) where
       let f : T (eqb (parent_of t 0) 0) = search (and_l, and_r) in
       eqb→eq (parent_of t 0) 0 f
 
-  pub child : (i : ℕ) → 0 < i → i < rows t → Child t i
+  pub child : (i : ℕ) → 0 < i → i < rows t → ChildRow t i
   child i p h = good_child_lem t i (row_holds t (rows t) whole i p h)
 
   -- no row's parent stands after it
@@ -128,7 +128,7 @@ module _ (t : List ℕ) (acc : accepted t ≡ true) where
   nest_below : (n i j : ℕ) → j < n → j < rows t → i < j → j ≤ end t i → end t j ≤ end t i
   nest_below zero i j b h l k = absurd (omega arith)
   nest_below (suc n) i j b h l k =
-      let c : Child t j = child j (omega arith) h in
+      let c : ChildRow t j = child j (omega arith) h in
       elim (eq-or-lt_of_le {n = i} {m = parent_of t j} (c.largest i l k)) [
         | inl s ↦ omega (arith, subst (λ (m : ℕ). end t j ≤ end t m) (sym s) c.within)
         | inr m ↦ omega (arith, nest_below n i (parent_of t j) (omega arith) (omega arith) m (omega arith))

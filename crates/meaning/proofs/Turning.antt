@@ -12,9 +12,9 @@ use lib.Ieee.{Float}
 use Rattle.meaning.specs.Lists.{keep, some, has, up_to}
 use Rattle.meaning.specs.Table.{rows, accepted}
 use Rattle.meaning.specs.Axis.{axes, axis_of, last_axis, test_of, on, principal, passes}
-use Rattle.meaning.specs.Axis as A
-use Rattle.meaning.specs.Rows.{Op}
-use Rattle.meaning.specs.Rows as R
+use Rattle.meaning.specs.declared.Axis.TheVariants.{Itself}
+use Rattle.meaning.specs.declared.Op.{Op}
+use Rattle.meaning.specs.declared.Op.TheVariants.{Step}
 use Rattle.meaning.specs.Tree.{Tree, none, node}
 use Rattle.meaning.specs.Meaning.{is_absolute, start_of, select, walk}
 use Rattle.meaning.specs.Turning.{counting, some_step, is_of_attributes, counts, of_attributes, inverses, inverse_of, predicates, test, back, turned}
@@ -39,14 +39,14 @@ unfolding some_step back
 counts_back none done h k = k
 counts_back (node op a b c d) done h k =
     let g : counts a ≡ false = or_none_l (counts a) (counting b) h in
-    counts_back a (node R.step done (predicates a) (inverse_of c) (test a)) g (rw (k, counting_last a g))
+    counts_back a (node Step done (predicates a) (inverse_of c) (test a)) g (rw (k, counting_last a g))
 
 -- ---- inverse axes
 
 -- the inverse axis's number is the number of the inverse axis
 pub inverse_number : (n : ℕ) → axis_of (inverse_of n) ≡ inverse (axis_of n)
 unfolding axis_of inverse_of inverse
-inverse_number n = sym (get_or-map axis_of inverses n 0) ∙ get_or-map inverse axes n A.self
+inverse_number n = sym (get_or-map axis_of inverses n 0) ∙ get_or-map inverse axes n Itself
 
 -- of two nodes that are no attributes one has a place on a usual axis of the other exactly if the other has one on the axis of the inverse
 -- number of it
@@ -65,7 +65,7 @@ inverse_usual = agree (λ c. eqb (inverse_of c) last_axis) (λ c. false) 12 refl
 usual_back : (s done : Tree) → of_attributes done ≡ false → of_attributes (back s done) ≡ false
 unfolding some_step back
 usual_back none done k = k
-usual_back (node op a b c d) done k = usual_back a (node R.step done (predicates a) (inverse_of c) (test a)) (rw (k, inverse_usual c))
+usual_back (node op a b c d) done k = usual_back a (node Step done (predicates a) (inverse_of c) (test a)) (rw (k, inverse_usual c))
 
 -- ---- chains of nodes
 
@@ -138,7 +138,7 @@ module _ (edition : ℕ) (t : List ℕ) (literals : List Float) where
   unfolding back Bare test predicates some_step
   turn_to none done u y x k = (x, k, refl)
   turn_to (node op a b c d) done u y x k =
-      let next : Tree = node R.step done (predicates a) (inverse_of c) (test a) in
+      let next : Tree = node Step done (predicates a) (inverse_of c) (test a) in
       let r : (w : ℕ) × Chain next y w × Bare a x w = turn_to a next (or_none_l (of_attributes a) (is_of_attributes b c) u) y x k in
       let m : Bare next y r.0 = r.1.0 in
       (m.0, (m.1, m.2, m.3), (r.0, r.2, r.1.1, r.1.2, subst T (sym (inverse_placed t c (usual_step b c (or_none_r (of_attributes a) (is_of_attributes b c) u)) r.0 m.0 r.1.2 m.3)) m.4))
@@ -147,26 +147,26 @@ module _ (edition : ℕ) (t : List ℕ) (literals : List Float) where
   unfolding back Bare test predicates some_step
   turn_from none done u y x z k e = subst (Chain done y) (sym e) k
   turn_from (node op a b c d) done u y x z k m =
-      turn_from a (node R.step done (predicates a) (inverse_of c) (test a)) (or_none_l (of_attributes a) (is_of_attributes b c) u) y x m.0
+      turn_from a (node Step done (predicates a) (inverse_of c) (test a)) (or_none_l (of_attributes a) (is_of_attributes b c) u) y x m.0
       ((z, k.0, k.1, k.2, subst T (inverse_placed t c (usual_step b c (or_none_r (of_attributes a) (is_of_attributes b c) u)) m.0 z m.3 k.2) m.4), m.2, m.3) m.1
 
 -- ---- the turned path
 
 -- the leading self step tests the node it starts from
 abbrev first : Tree → Tree
-first s = node R.step none (predicates s) 0 (test s)
+first s = node Step none (predicates s) 0 (test s)
 
 module _ (edition : ℕ) (t : List ℕ) (literals : List Float) (s : Tree) (u : of_attributes s ≡ false) where
   turned_to : (x y : ℕ) → Chain edition t literals s x y → Chain edition t literals (back s (first s)) y x
   unfolding Bare axis_of on passes test_of test predicates ok
-  turned_to x y k = turn_from edition t literals s (first s) u y x y ((y, refl, tt, k.2, subst T (sym (placed_on t A.self y y k.2.0)) (eqb_refl y)), k.1, k.2) k.0
+  turned_to x y k = turn_from edition t literals s (first s) u y x y ((y, refl, tt, k.2, subst T (sym (placed_on t Itself y y k.2.0)) (eqb_refl y)), k.1, k.2) k.0
 
   turned_from : (x y : ℕ) → Chain edition t literals (back s (first s)) y x → Chain edition t literals s x y
   unfolding Bare axis_of on test predicates
   turned_from x y k =
       let r : (z : ℕ) × Chain edition t literals (first s) y z × Bare edition t literals s x z = turn_to edition t literals s (first s) u y x k in
       let m : Bare edition t literals (first s) y r.0 = r.1.0 in
-      subst (Chain edition t literals s x) (sym (m.1 ∙ eqb→eq m.0 r.0 (subst T (placed_on t A.self m.0 r.0 r.1.2.0) m.4))) (r.2, r.1.1, r.1.2)
+      subst (Chain edition t literals s x) (sym (m.1 ∙ eqb→eq m.0 r.0 (subst T (placed_on t Itself m.0 r.0 r.1.2.0) m.4))) (r.2, r.1.1, r.1.2)
 
 -- a relative path walks from the given node
 select_relative : (edition : ℕ) (t : List ℕ) (literals : List Float) (op : Op) (s b : Tree) (c d x : ℕ) → is_absolute op ≡ false → select edition t literals (node op s b c d) x ≡ walk edition t literals s (start t x)

@@ -2,7 +2,7 @@
 -- answer of each public function and what its output slice holds, from its inputs.
 -- Checks run in the order of the numbers, 14 before all others and 13 between 9 and 10; the first that applies is given, and no other.
 -- Assumes nothing: these are definitions.
-use Rattle.std.specs.Prelude.{ℕ, ◌+◌, ◌*◌, Bool, false, ◌&&◌, ◌||◌, not, cond, List, ◌++◌, length, drop, leb, ltb, eqb, Float}
+use Rattle.std.specs.Prelude.{ℕ, ◌+◌, ◌*◌, Bool, false, ◌&&◌, ◌||◌, not, cond, List, ◌++◌, length, drop, leb, ltb, eqb, Float, Result, Ok, Err}
 use Rattle.meaning.specs.Lists.{up_to, some, lowest}
 use Rattle.meaning.specs.Table.{rows, length_allowed, broken, accepted}
 use Rattle.meaning.specs.Axis.{axis_of, last_axis, place}
@@ -11,9 +11,32 @@ use Rattle.meaning.specs.Tree.{Tree, none, node, tree, depth, most_depth}
 use Rattle.meaning.specs.Meaning.{select, is_absolute}
 use Rattle.meaning.specs.Turning.{first_step, is_counting, is_of_attributes, turned, written}
 use Rattle.meaning.specs.declared.Answer.{Answer}
+use Rattle.meaning.specs.declared.Refusal.{Refusal}
+use Rattle.meaning.specs.declared.Refusal.TheVariants.{TableLength, BrokenRow, PathLength, BadLiteral, BrokenPathRow, TooDeep, NoSuchNode, NoRoom, StepCounts, AbsolutePath, NoRoomToTurn, StepOnAttributes, NoSuchEdition}
 
 abbrev pub answer : ℕ → ℕ → Answer
 answer n p = record { number = n; place = p }
+
+-- a refusal as its number and place
+abbrev pub refused : Refusal → Answer
+refused TableLength = answer 1 0
+refused (BrokenRow i) = answer 2 i
+refused PathLength = answer 3 0
+refused (BadLiteral i) = answer 4 i
+refused (BrokenPathRow r) = answer 5 r
+refused TooDeep = answer 6 0
+refused (NoSuchNode x) = answer 7 x
+refused (NoRoom n) = answer 8 n
+refused (StepCounts k) = answer 9 k
+refused AbsolutePath = answer 10 0
+refused (NoRoomToTurn n) = answer 11 n
+refused (StepOnAttributes k) = answer 13 k
+refused (NoSuchEdition edition) = answer 14 edition
+
+-- what a function gives back as a number and a place: 0 with its count, or its refusal
+abbrev pub told : Result ℕ Refusal → Answer
+told (Ok n) = answer 0 n
+told (Err r) = refused r
 
 -- a check: where it applies its number and place are given, else what follows
 abbrev pub check : Bool → ℕ → ℕ → Answer → Answer

@@ -8,8 +8,9 @@ use Rattle.std.specs.Float.Ieee as Ieee
 use Rattle.meaning.specs.Lists.{up_to, keep, some, has}
 use Rattle.meaning.specs.Table.{rows}
 use Rattle.meaning.specs.Axis.{axis_of, test_of, candidates}
-use Rattle.meaning.specs.Rows.{Op, code}
-use Rattle.meaning.specs.Rows as R
+use Rattle.meaning.specs.declared.Op.{Op}
+use Rattle.meaning.specs.declared.Op.TheVariants.{Absolute, Add, And, Count, Divide, Equal, Exists, Greater, GreaterEqual, Last, Less, LessEqual, Literal, Multiply, Negate, Negation, Or, Position, Predicate, Relative, Remainder, Step, Subtract, TruthOf, Unequal, Unknown}
+use Rattle.meaning.specs.Rows.{code}
 use Rattle.meaning.specs.Tree.{Tree, none, node}
 use Rattle.meaning.specs.declared.Value.{Value}
 use Rattle.meaning.specs.declared.Value.TheVariants.{Truth, Number}
@@ -39,32 +40,32 @@ nonzero x = not (is_nan x || Ieee.eq x (float 0))
 
 -- the table of ops: i is a literal's index, u and v are the operands, n is how many nodes the op's path selects
 unfoldable pub applied : List Float → Op → ℕ → Value → Value → ℕ → Context → Value
-applied literals R.literal i u v n x = Number (get_or literals i nan)
-applied literals R.position i u v n x = Number x.position
-applied literals R.last i u v n x = Number x.size
-applied literals R.add i u v n x = Number (Ieee.add binary64 (number_of u) (number_of v))
-applied literals R.subtract i u v n x = Number (Ieee.sub binary64 (number_of u) (number_of v))
-applied literals R.multiply i u v n x = Number (Ieee.mul binary64 (number_of u) (number_of v))
-applied literals R.divide i u v n x = Number (Ieee.div binary64 (number_of u) (number_of v))
-applied literals R.remainder i u v n x = Number (Ieee.rem binary64 (number_of u) (number_of v))
-applied literals R.negate i u v n x = Number (Ieee.neg (number_of u))
-applied literals R.equal i u v n x = Truth (Ieee.eq (number_of u) (number_of v))
-applied literals R.unequal i u v n x = Truth (Ieee.ne (number_of u) (number_of v))
-applied literals R.less i u v n x = Truth (Ieee.lt (number_of u) (number_of v))
-applied literals R.less_equal i u v n x = Truth (Ieee.le (number_of u) (number_of v))
-applied literals R.greater i u v n x = Truth (Ieee.lt (number_of v) (number_of u))
-applied literals R.greater_equal i u v n x = Truth (Ieee.le (number_of v) (number_of u))
-applied literals R.and i u v n x = Truth (truth_of u && truth_of v)
-applied literals R.or i u v n x = Truth (truth_of u || truth_of v)
-applied literals R.negation i u v n x = Truth (not (truth_of u))
-applied literals R.truth i u v n x = Truth (nonzero (number_of u))
-applied literals R.exists i u v n x = Truth (ltb 0 n)
-applied literals R.count i u v n x = Number (float n)
-applied literals R.relative i u v n x = Truth false
-applied literals R.absolute i u v n x = Truth false
-applied literals R.step i u v n x = Truth false
-applied literals R.predicate i u v n x = Truth false
-applied literals R.unknown i u v n x = Truth false
+applied literals Literal i u v n x = Number (get_or literals i nan)
+applied literals Position i u v n x = Number x.position
+applied literals Last i u v n x = Number x.size
+applied literals Add i u v n x = Number (Ieee.add binary64 (number_of u) (number_of v))
+applied literals Subtract i u v n x = Number (Ieee.sub binary64 (number_of u) (number_of v))
+applied literals Multiply i u v n x = Number (Ieee.mul binary64 (number_of u) (number_of v))
+applied literals Divide i u v n x = Number (Ieee.div binary64 (number_of u) (number_of v))
+applied literals Remainder i u v n x = Number (Ieee.rem binary64 (number_of u) (number_of v))
+applied literals Negate i u v n x = Number (Ieee.neg (number_of u))
+applied literals Equal i u v n x = Truth (Ieee.eq (number_of u) (number_of v))
+applied literals Unequal i u v n x = Truth (Ieee.ne (number_of u) (number_of v))
+applied literals Less i u v n x = Truth (Ieee.lt (number_of u) (number_of v))
+applied literals LessEqual i u v n x = Truth (Ieee.le (number_of u) (number_of v))
+applied literals Greater i u v n x = Truth (Ieee.lt (number_of v) (number_of u))
+applied literals GreaterEqual i u v n x = Truth (Ieee.le (number_of v) (number_of u))
+applied literals And i u v n x = Truth (truth_of u && truth_of v)
+applied literals Or i u v n x = Truth (truth_of u || truth_of v)
+applied literals Negation i u v n x = Truth (not (truth_of u))
+applied literals TruthOf i u v n x = Truth (nonzero (number_of u))
+applied literals Exists i u v n x = Truth (ltb 0 n)
+applied literals Count i u v n x = Number (float n)
+applied literals Relative i u v n x = Truth false
+applied literals Absolute i u v n x = Truth false
+applied literals Step i u v n x = Truth false
+applied literals Predicate i u v n x = Truth false
+applied literals Unknown i u v n x = Truth false
 
 -- keeps the nodes at which f holds, positions counted from i
 unfoldable pub keep_at : (ℕ → ℕ → Bool) → ℕ → List ℕ → List ℕ

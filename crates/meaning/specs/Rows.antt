@@ -5,6 +5,11 @@ use Rattle.std.specs.Float.{binary64, nan}
 use Rattle.std.specs.Float.Ieee.{is_nan, to_bits}
 use Rattle.meaning.specs.Lists.{up_to, some}
 use Rattle.meaning.specs.Axis.{last_axis}
+use Rattle.meaning.specs.declared.Op.{Op}
+use Rattle.meaning.specs.declared.Op.TheVariants.{Absolute, Add, And, Count, Divide, Equal, Exists, Greater, GreaterEqual, Last, Less, LessEqual, Literal, Multiply, Negate, Negation, Or, Position, Predicate, Relative, Remainder, Step, Subtract, TruthOf, Unequal, Unknown}
+use Rattle.meaning.specs.declared.Field.{Field}
+use Rattle.meaning.specs.declared.Field.TheVariants.{AxisNumber, ExpressionLink, LiteralIndex, NumberLink, PathLink, PredicateOrNone, StepLink, StepOrNone, TestNumber, TruthLink, Unused}
+use Rattle.meaning.specs.declared.Fields.{Fields}
 
 -- the most rows of a path, and the most literals
 abbrev pub most_path_rows : ℕ
@@ -32,99 +37,80 @@ bad_literal x = is_nan x || leb 0x7FF0000000000000 (to_bits binary64 x)
 unfoldable pub bad_literal_at : List Float → ℕ → Bool
 bad_literal_at literals i = leb most_literals i || bad_literal (get_or literals i nan)
 
-pub data Op : Type 0 where
-  literal position last : Op
-  add subtract multiply divide remainder negate : Op
-  equal unequal less less_equal greater greater_equal : Op
-  and or negation truth exists count : Op
-  relative absolute step predicate : Op
-  unknown : Op
-
 -- ops 1 to 25, each at its number
 abbrev pub ops : List Op
 ops =
-    unknown ∷ literal ∷ position ∷ last ∷ add ∷ subtract ∷ multiply ∷ divide ∷ remainder ∷ negate
-    ∷ equal ∷ unequal ∷ less ∷ less_equal ∷ greater ∷ greater_equal ∷ and ∷ or ∷ negation ∷ truth ∷ exists ∷ count
-    ∷ relative ∷ absolute ∷ step ∷ predicate ∷ []
+    Unknown ∷ Literal ∷ Position ∷ Last ∷ Add ∷ Subtract ∷ Multiply ∷ Divide ∷ Remainder ∷ Negate
+    ∷ Equal ∷ Unequal ∷ Less ∷ LessEqual ∷ Greater ∷ GreaterEqual ∷ And ∷ Or ∷ Negation ∷ TruthOf ∷ Exists ∷ Count
+    ∷ Relative ∷ Absolute ∷ Step ∷ Predicate ∷ []
 
 unfoldable pub op_of : ℕ → Op
-op_of n = get_or ops n unknown
+op_of n = get_or ops n Unknown
 
 abbrev pub op_at : List ℕ → ℕ → Op
 op_at p r = op_of (field p r 0)
 
 -- what a field holds: nothing, a literal index, an axis, a test, or a link to a row of a sort; the last two may be no link
-pub data Field : Type 0 where
-  unused index axis test : Field
-  number_link truth_link expression_link path_link step_link : Field
-  step_or_none predicate_or_none : Field
-
-pub record Fields : Type 0 where
-  pub a : Field
-  pub b : Field
-  pub c : Field
-  pub d : Field
-
 abbrev holding : Field → Field → Field → Field → Fields
 holding a b c d = record { a = a; b = b; c = c; d = d }
 
 -- the table of ops: what each op's fields hold
 unfoldable pub fields_of : Op → Fields
-fields_of literal = holding index unused unused unused
-fields_of position = holding unused unused unused unused
-fields_of last = holding unused unused unused unused
-fields_of add = holding number_link number_link unused unused
-fields_of subtract = holding number_link number_link unused unused
-fields_of multiply = holding number_link number_link unused unused
-fields_of divide = holding number_link number_link unused unused
-fields_of remainder = holding number_link number_link unused unused
-fields_of negate = holding number_link unused unused unused
-fields_of equal = holding number_link number_link unused unused
-fields_of unequal = holding number_link number_link unused unused
-fields_of less = holding number_link number_link unused unused
-fields_of less_equal = holding number_link number_link unused unused
-fields_of greater = holding number_link number_link unused unused
-fields_of greater_equal = holding number_link number_link unused unused
-fields_of and = holding truth_link truth_link unused unused
-fields_of or = holding truth_link truth_link unused unused
-fields_of negation = holding truth_link unused unused unused
-fields_of truth = holding number_link unused unused unused
-fields_of exists = holding path_link unused unused unused
-fields_of count = holding path_link unused unused unused
-fields_of relative = holding step_link unused unused unused
-fields_of absolute = holding step_or_none unused unused unused
-fields_of step = holding step_or_none predicate_or_none axis test
-fields_of predicate = holding predicate_or_none expression_link unused unused
-fields_of unknown = holding unused unused unused unused
+fields_of Literal = holding LiteralIndex Unused Unused Unused
+fields_of Position = holding Unused Unused Unused Unused
+fields_of Last = holding Unused Unused Unused Unused
+fields_of Add = holding NumberLink NumberLink Unused Unused
+fields_of Subtract = holding NumberLink NumberLink Unused Unused
+fields_of Multiply = holding NumberLink NumberLink Unused Unused
+fields_of Divide = holding NumberLink NumberLink Unused Unused
+fields_of Remainder = holding NumberLink NumberLink Unused Unused
+fields_of Negate = holding NumberLink Unused Unused Unused
+fields_of Equal = holding NumberLink NumberLink Unused Unused
+fields_of Unequal = holding NumberLink NumberLink Unused Unused
+fields_of Less = holding NumberLink NumberLink Unused Unused
+fields_of LessEqual = holding NumberLink NumberLink Unused Unused
+fields_of Greater = holding NumberLink NumberLink Unused Unused
+fields_of GreaterEqual = holding NumberLink NumberLink Unused Unused
+fields_of And = holding TruthLink TruthLink Unused Unused
+fields_of Or = holding TruthLink TruthLink Unused Unused
+fields_of Negation = holding TruthLink Unused Unused Unused
+fields_of TruthOf = holding NumberLink Unused Unused Unused
+fields_of Exists = holding PathLink Unused Unused Unused
+fields_of Count = holding PathLink Unused Unused Unused
+fields_of Relative = holding StepLink Unused Unused Unused
+fields_of Absolute = holding StepOrNone Unused Unused Unused
+fields_of Step = holding StepOrNone PredicateOrNone AxisNumber TestNumber
+fields_of Predicate = holding PredicateOrNone ExpressionLink Unused Unused
+fields_of Unknown = holding Unused Unused Unused Unused
 
 -- the number of an op
 unfoldable pub code : Op → ℕ
-code literal = 1
-code position = 2
-code last = 3
-code add = 4
-code subtract = 5
-code multiply = 6
-code divide = 7
-code remainder = 8
-code negate = 9
-code equal = 10
-code unequal = 11
-code less = 12
-code less_equal = 13
-code greater = 14
-code greater_equal = 15
-code and = 16
-code or = 17
-code negation = 18
-code truth = 19
-code exists = 20
-code count = 21
-code relative = 22
-code absolute = 23
-code step = 24
-code predicate = 25
-code unknown = 0
+code Literal = 1
+code Position = 2
+code Last = 3
+code Add = 4
+code Subtract = 5
+code Multiply = 6
+code Divide = 7
+code Remainder = 8
+code Negate = 9
+code Equal = 10
+code Unequal = 11
+code Less = 12
+code LessEqual = 13
+code Greater = 14
+code GreaterEqual = 15
+code And = 16
+code Or = 17
+code Negation = 18
+code TruthOf = 19
+code Exists = 20
+code Count = 21
+code Relative = 22
+code Absolute = 23
+code Step = 24
+code Predicate = 25
+code Unknown = 0
 
 -- ops 1 to 9 and 21 are numbers; 10 to 20 are truths
 unfoldable pub is_number : Op → Bool
@@ -151,45 +137,45 @@ is_unknown op = eqb (code op) 0
 
 -- is the field a link field?
 unfoldable pub is_link : Field → Bool
-is_link unused = false
-is_link index = false
-is_link axis = false
-is_link test = false
-is_link number_link = true
-is_link truth_link = true
-is_link expression_link = true
-is_link path_link = true
-is_link step_link = true
-is_link step_or_none = true
-is_link predicate_or_none = true
+is_link Unused = false
+is_link LiteralIndex = false
+is_link AxisNumber = false
+is_link TestNumber = false
+is_link NumberLink = true
+is_link TruthLink = true
+is_link ExpressionLink = true
+is_link PathLink = true
+is_link StepLink = true
+is_link StepOrNone = true
+is_link PredicateOrNone = true
 
 -- may a field of this kind hold a link to a row of this op?
 unfoldable pub takes : Field → Op → Bool
-takes unused op = false
-takes index op = false
-takes axis op = false
-takes test op = false
-takes number_link op = is_number op
-takes truth_link op = is_truth op
-takes expression_link op = is_number op || is_truth op
-takes path_link op = is_path op
-takes step_link op = is_step op
-takes step_or_none op = is_step op
-takes predicate_or_none op = is_predicate op
+takes Unused op = false
+takes LiteralIndex op = false
+takes AxisNumber op = false
+takes TestNumber op = false
+takes NumberLink op = is_number op
+takes TruthLink op = is_truth op
+takes ExpressionLink op = is_number op || is_truth op
+takes PathLink op = is_path op
+takes StepLink op = is_step op
+takes StepOrNone op = is_step op
+takes PredicateOrNone op = is_predicate op
 
 -- may a field of this kind be 0, for no link?
 unfoldable pub may_miss : Field → Bool
-may_miss unused = false
-may_miss index = false
-may_miss axis = false
-may_miss test = false
-may_miss number_link = false
-may_miss truth_link = false
-may_miss expression_link = false
-may_miss path_link = false
-may_miss step_link = false
-may_miss step_or_none = true
-may_miss predicate_or_none = true
+may_miss Unused = false
+may_miss LiteralIndex = false
+may_miss AxisNumber = false
+may_miss TestNumber = false
+may_miss NumberLink = false
+may_miss TruthLink = false
+may_miss ExpressionLink = false
+may_miss PathLink = false
+may_miss StepLink = false
+may_miss StepOrNone = true
+may_miss PredicateOrNone = true
 
 -- a link in row r is a row number plus one and lies in 1..r; it is missing, out of range or of the wrong sort otherwise
 unfoldable pub good_link : List ℕ → ℕ → Field → ℕ → Bool
@@ -201,17 +187,17 @@ good_test n = leb n 4 || (leb 17 n && leb n 65551)
 
 -- is v allowed in a field of row r? A literal index is below the number of literals; axes are 0 to 11
 unfoldable pub good_field : List ℕ → ℕ → ℕ → Field → ℕ → Bool
-good_field p literals r unused v = eqb v 0
-good_field p literals r index v = ltb v literals
-good_field p literals r axis v = leb v last_axis
-good_field p literals r test v = good_test v
-good_field p literals r number_link v = good_link p r number_link v
-good_field p literals r truth_link v = good_link p r truth_link v
-good_field p literals r expression_link v = good_link p r expression_link v
-good_field p literals r path_link v = good_link p r path_link v
-good_field p literals r step_link v = good_link p r step_link v
-good_field p literals r step_or_none v = good_link p r step_or_none v
-good_field p literals r predicate_or_none v = good_link p r predicate_or_none v
+good_field p literals r Unused v = eqb v 0
+good_field p literals r LiteralIndex v = ltb v literals
+good_field p literals r AxisNumber v = leb v last_axis
+good_field p literals r TestNumber v = good_test v
+good_field p literals r NumberLink v = good_link p r NumberLink v
+good_field p literals r TruthLink v = good_link p r TruthLink v
+good_field p literals r ExpressionLink v = good_link p r ExpressionLink v
+good_field p literals r PathLink v = good_link p r PathLink v
+good_field p literals r StepLink v = good_link p r StepLink v
+good_field p literals r StepOrNone v = good_link p r StepOrNone v
+good_field p literals r PredicateOrNone v = good_link p r PredicateOrNone v
 
 unfoldable pub good_fields : List ℕ → ℕ → ℕ → Bool
 good_fields p literals r =

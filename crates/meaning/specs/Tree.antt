@@ -1,7 +1,8 @@
 -- A path's rows read as a tree (document 01, "The path form"): a row with its links followed.
 -- Assumes nothing: these are definitions.
 use Rattle.std.specs.Prelude.{ℕ, zero, suc, ◌+◌, max, cond, List}
-use Rattle.meaning.specs.Rows.{Op, op_at, field, first_link, second_link, is_literal, is_step, is_path}
+use Rattle.meaning.specs.Rows.{op_at, field, first_link, second_link, is_literal, is_step, is_path}
+use Rattle.meaning.specs.declared.Op.{Op}
 
 -- the most paths around each other
 abbrev pub most_depth : ℕ

@@ -3,8 +3,9 @@
 -- Assumes nothing: these are definitions.
 use Rattle.std.specs.Prelude.{ℕ, ◌+◌, Bool, false, ◌&&◌, ◌||◌, not, cond, List, [], ◌∷◌, ◌++◌, get_or, eqb}
 use Rattle.meaning.specs.Axis.{last_axis}
-use Rattle.meaning.specs.Rows.{Op, code, is_number, is_literal}
-use Rattle.meaning.specs.Rows as R
+use Rattle.meaning.specs.declared.Op.{Op}
+use Rattle.meaning.specs.declared.Op.TheVariants.{Step}
+use Rattle.meaning.specs.Rows.{code, is_number, is_literal}
 use Rattle.meaning.specs.Tree.{Tree, none, node}
 
 -- ops 2 and 3, position() and last()
@@ -81,12 +82,12 @@ test (node op a b c d) = d
 -- for i from k down to 1, behind the steps `done`: the inverse of ai with t(i-1) P(i-1), at i = 1 with node()
 unfoldable pub back : Tree → Tree → Tree
 back none done = done
-back (node op a b c d) done = back a (node R.step done (predicates a) (inverse_of c) (test a))
+back (node op a b c d) done = back a (node Step done (predicates a) (inverse_of c) (test a))
 
 -- the turned path is self::tk Pk, then the steps back
 unfoldable pub turned : Tree → Tree
 turned none = none
-turned (node op a b c d) = node op (back a (node R.step none (predicates a) 0 (test a))) none 0 0
+turned (node op a b c d) = node op (back a (node Step none (predicates a) 0 (test a))) none 0 0
 
 -- the number of rows of a tree
 unfoldable pub weight : Tree → ℕ

@@ -10,7 +10,11 @@ use lib.Dec.{leb, eqb}
 use native.Mathlib.Omega.{arith}
 use borrow.Author.Tests.{eqb-true, not-false, ne_eqb, le-leb}
 use Rattle.meaning.specs.Lists.{some, up_to}
-use Rattle.meaning.specs.Rows.{Op, unknown, Field, unused, index, axis, test, number_link, truth_link, expression_link, path_link, step_link, step_or_none, predicate_or_none, op_of, fields_of, is_link, may_miss, good_link, good_field}
+use Rattle.meaning.specs.Rows.{op_of, fields_of, is_link, may_miss, good_link, good_field}
+use Rattle.meaning.specs.declared.Op.{Op}
+use Rattle.meaning.specs.declared.Op.TheVariants.{Unknown}
+use Rattle.meaning.specs.declared.Field.{Field}
+use Rattle.meaning.specs.declared.Field.TheVariants.{AxisNumber, ExpressionLink, LiteralIndex, NumberLink, PathLink, PredicateOrNone, StepLink, StepOrNone, TestNumber, TruthLink, Unused}
 use Rattle.meaning.proofs.Bools.{lt_or_ge}
 use Rattle.meaning.proofs.Lists.{below_none}
 use Rattle.meaning.proofs.Decoding.{op_past, agree}
@@ -18,34 +22,34 @@ use Rattle.path.specs.Kinds.{kinds, field_of}
 
 -- the number of a kind, which decodes to it
 kind_number : Field → ℕ
-kind_number unused = 0
-kind_number index = 1
-kind_number axis = 2
-kind_number test = 3
-kind_number number_link = 4
-kind_number truth_link = 5
-kind_number expression_link = 6
-kind_number path_link = 7
-kind_number step_link = 8
-kind_number step_or_none = 9
-kind_number predicate_or_none = 10
+kind_number Unused = 0
+kind_number LiteralIndex = 1
+kind_number AxisNumber = 2
+kind_number TestNumber = 3
+kind_number NumberLink = 4
+kind_number TruthLink = 5
+kind_number ExpressionLink = 6
+kind_number PathLink = 7
+kind_number StepLink = 8
+kind_number StepOrNone = 9
+kind_number PredicateOrNone = 10
 
 decoded : (f : Field) → field_of (kind_number f) ≡ f
 unfolding field_of kind_number
-decoded unused = refl
-decoded index = refl
-decoded axis = refl
-decoded test = refl
-decoded number_link = refl
-decoded truth_link = refl
-decoded expression_link = refl
-decoded path_link = refl
-decoded step_link = refl
-decoded step_or_none = refl
-decoded predicate_or_none = refl
+decoded Unused = refl
+decoded LiteralIndex = refl
+decoded AxisNumber = refl
+decoded TestNumber = refl
+decoded NumberLink = refl
+decoded TruthLink = refl
+decoded ExpressionLink = refl
+decoded PathLink = refl
+decoded StepLink = refl
+decoded StepOrNone = refl
+decoded PredicateOrNone = refl
 
 -- numbers that are right for ops 0 to 25, as computed, and 0 from there on, are right
-kinds_right : (g : ℕ → ℕ) (f : Op → Field) → some (λ k. not (eqb (g k) (kind_number (f (op_of k))))) (up_to 26) ≡ false → ((n : ℕ) → 26 ≤ n → g n ≡ 0) → f unknown ≡ unused → (n : ℕ) → field_of (g n) ≡ f (op_of n)
+kinds_right : (g : ℕ → ℕ) (f : Op → Field) → some (λ k. not (eqb (g k) (kind_number (f (op_of k))))) (up_to 26) ≡ false → ((n : ℕ) → 26 ≤ n → g n ≡ 0) → f Unknown ≡ Unused → (n : ℕ) → field_of (g n) ≡ f (op_of n)
 unfolding field_of
 kinds_right g f h past none n =
     ⊎_elim
@@ -79,9 +83,9 @@ unfolding op_of fields_of kind_number some up_to
 fourth_right = kinds_right (λ n. cond (eqb n 24) 3 0) (λ o. (fields_of o).d) refl (λ n h. rw (ne_eqb n 24 (λ e. omega arith))) refl
 
 -- a kind from 10 on is a predicate or none
-pub kind_past : (n : ℕ) → 10 ≤ n → field_of n ≡ predicate_or_none
+pub kind_past : (n : ℕ) → 10 ≤ n → field_of n ≡ PredicateOrNone
 unfolding field_of
-kind_past n h = ⊎_elim (λ l. get_or-eq_default kinds predicate_or_none l) (λ l. let e : n ≡ 10 = omega arith in rw e) (lt_or_ge 10 n)
+kind_past n h = ⊎_elim (λ l. get_or-eq_default kinds PredicateOrNone l) (λ l. let e : n ≡ 10 = omega arith in rw e) (lt_or_ge 10 n)
 
 -- link kinds are those from 4 on, and those from 9 on may be no link
 links_from : (n : ℕ) → is_link (field_of n) ≡ leb 4 n
@@ -95,17 +99,17 @@ misses_from = agree (λ n. may_miss (field_of n)) (λ n. leb 9 n) 11 refl (λ n 
 -- a link field is good where its link is
 link_field : (p : List ℕ) (literals r v : ℕ) (f : Field) → is_link f ≡ true → good_link p r f v ≡ good_field p literals r f v
 unfolding good_field is_link
-link_field p literals r v unused h = absurd (false≢true h)
-link_field p literals r v index h = absurd (false≢true h)
-link_field p literals r v axis h = absurd (false≢true h)
-link_field p literals r v test h = absurd (false≢true h)
-link_field p literals r v number_link h = refl
-link_field p literals r v truth_link h = refl
-link_field p literals r v expression_link h = refl
-link_field p literals r v path_link h = refl
-link_field p literals r v step_link h = refl
-link_field p literals r v step_or_none h = refl
-link_field p literals r v predicate_or_none h = refl
+link_field p literals r v Unused h = absurd (false≢true h)
+link_field p literals r v LiteralIndex h = absurd (false≢true h)
+link_field p literals r v AxisNumber h = absurd (false≢true h)
+link_field p literals r v TestNumber h = absurd (false≢true h)
+link_field p literals r v NumberLink h = refl
+link_field p literals r v TruthLink h = refl
+link_field p literals r v ExpressionLink h = refl
+link_field p literals r v PathLink h = refl
+link_field p literals r v StepLink h = refl
+link_field p literals r v StepOrNone h = refl
+link_field p literals r v PredicateOrNone h = refl
 
 -- a field of a link kind is good where its link is
 pub link_kind : (p : List ℕ) (literals r v n : ℕ) → 4 ≤ n → good_link p r (field_of n) v ≡ good_field p literals r (field_of n) v

@@ -2,11 +2,13 @@
 #![tactic(auto)]
 
 ghost use Rattle.std.specs.Prelude.{◌≡◌, ◌<◌, ◌≤◌};
-ghost use Rattle.meaning.specs.Rows.{op_of, field, rows_of, fields_of, is_link, first_link, second_link};
+ghost use Rattle.meaning.specs.Axis.{axis_of, test_of};
+ghost use Rattle.meaning.specs.Rows.{op_of, op_at, field, rows_of, fields_of, is_link, first_link, second_link};
 ghost use Rattle.meaning.specs.Tree.{index_or_axis, test_at};
 ghost use Rattle.meaning.specs.Turning.{inverse_of};
 
 use basics::{at_most, both, either, entry, same};
+use meaning::{Axis, Op, Test};
 
 pub fn row_count(path: &[u32]) -> usize
     ensures { result ≡ rows_of path.now }
@@ -20,6 +22,14 @@ pub fn field_at(path: &[u32], row: usize, f: usize) -> usize
     ensures { (result ≡ field path.now row f) × (result < 4294967296) }
 {
     entry(path, 5 * row + f)
+}
+
+// A row's op.
+pub fn op_at(path: &[u32], row: usize) -> Op
+    requires { row ≤ 256 }
+    ensures { result ≡ op_at path.now row }
+{
+    Op::from(field_at(path, row, 0))
 }
 
 // Is an op's field a, or b, a link field?
@@ -86,6 +96,21 @@ pub fn test_at(path: &[u32], row: usize) -> usize
         24 => field_at(path, row, 4),
         _ => 0,
     }
+}
+
+// A step's axis and its test; self and node() for any other op but a literal, whose index is read as an axis.
+pub fn axis_at(path: &[u32], row: usize) -> Axis
+    requires { row ≤ 256 }
+    ensures { result ≡ axis_of (index_or_axis path.now row) }
+{
+    Axis::from(index_or_axis(path, row))
+}
+
+pub fn node_test_at(path: &[u32], row: usize) -> Test
+    requires { row ≤ 256 }
+    ensures { result ≡ test_of (test_at path.now row) }
+{
+    Test::from(test_at(path, row))
 }
 
 // The number of the inverse axis: 0 with itself, an odd axis with the one above it, an even one with the one below.

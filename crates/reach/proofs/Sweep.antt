@@ -16,7 +16,7 @@ use borrow.Author.Tests.{lt-ltb, le-ltb, ne_eqb}
 use Rattle.meaning.specs.Lists.{up_to, some}
 use Rattle.meaning.specs.Table.{rows, parent_of, end, is_attribute}
 use Rattle.meaning.specs.Axis.{under, inside, on}
-use Rattle.meaning.specs.Axis as A
+use Rattle.meaning.specs.declared.Axis.TheVariants.{FollowingSibling, Itself, PrecedingSibling}
 use Rattle.meaning.proofs.Bools.{lt_or_ge, eq_or_ne, eqb_sym}
 use Rattle.meaning.proofs.Lists.{some_last, some_same}
 use Rattle.meaning.proofs.Windows.{some_below, some_and, some_at, some_at_or, up_from, window_below, window_above, leb_ltb}
@@ -214,7 +214,7 @@ module _ (t : List ℕ) (from : List Bool) (y : ℕ) (given taken v : Bool) wher
 -- siblings: no attribute gives, and none is taken
 module _ (t : List ℕ) (from : List Bool) (y : ℕ) (low : y < rows t) where
   -- a later sibling: y's parent is flagged by the rows behind y
-  pub later_hit : Rooted t → (v : ℕ → Bool) → Gathered (rows t) (over t) (giving from (admitted t true false)) (up_to y) v → (v (parent_of t y) && admitted t true false y) ≡ hit t (on t A.following_sibling) from y
+  pub later_hit : Rooted t → (v : ℕ → Bool) → Gathered (rows t) (over t) (giving from (admitted t true false)) (up_to y) v → (v (parent_of t y) && admitted t true false y) ≡ hit t (on t FollowingSibling) from y
   unfolding Gathered hit on under giving
   later_hit r v h =
       ap (λ (b : Bool). b && admitted t true false y) (h (parent_of t y) (omega (arith, rooted t r y low))
@@ -229,7 +229,7 @@ module _ (t : List ℕ) (from : List Bool) (y : ℕ) (low : y < rows t) where
       regroup false true true b d n = rw (and-false b)
 
   -- an earlier sibling: by the rows after y, and y is not row 0
-  pub earlier_hit : Rooted t → (v : ℕ → Bool) → Gathered (rows t) (over t) (giving from (admitted t true false)) (up_from (y + 1) (rows t - (y + 1))) v → ((ltb 0 y && v (parent_of t y)) && admitted t true false y) ≡ hit t (on t A.preceding_sibling) from y
+  pub earlier_hit : Rooted t → (v : ℕ → Bool) → Gathered (rows t) (over t) (giving from (admitted t true false)) (up_from (y + 1) (rows t - (y + 1))) v → ((ltb 0 y && v (parent_of t y)) && admitted t true false y) ≡ hit t (on t PrecedingSibling) from y
   unfolding Gathered hit on under giving
   earlier_hit r v h =
       ap (λ (b : Bool). (ltb 0 y && b) && admitted t true false y) (h (parent_of t y) (omega (arith, rooted t r y low))
@@ -261,14 +261,14 @@ module _ (t : List ℕ) (r : ℕ → ℕ → Bool) (old now : List Bool) (n : �
   down_hits h e y l = down_all (hit t r old) n old now h y (omega arith)
 
 -- every set reaches itself
-pub self_hits : (t : List ℕ) (marks : List Bool) → Hits t (on t A.self) marks marks
+pub self_hits : (t : List ℕ) (marks : List Bool) → Hits t (on t Itself) marks marks
 unfolding Hits hit on
 self_hits t marks y low = sym (some_at (λ x. get_or marks x false) (rows t) y low)
 
 -- and is reached by itself
-pub self_hits_back : (t : List ℕ) (marks : List Bool) → Hits t (λ y x. on t A.self x y) marks marks
+pub self_hits_back : (t : List ℕ) (marks : List Bool) → Hits t (λ y x. on t Itself x y) marks marks
 unfolding on
-self_hits_back t marks = hits_alike t (on t A.self) (λ y x. on t A.self x y) marks marks (self_hits t marks) (λ x y. eqb_sym x y)
+self_hits_back t marks = hits_alike t (on t Itself) (λ y x. on t Itself x y) marks marks (self_hits t marks) (λ x y. eqb_sym x y)
 
 -- ---- the parents, which are the flags themselves: a row's flag stands where its mark was
 

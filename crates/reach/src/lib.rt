@@ -8,7 +8,7 @@ ghost use Rattle.std.specs.Prelude.{◌≡◌, true, false, ◌&&◌, ◌||◌, 
 ghost use Rattle.meaning.specs.Lists.{up_to, some};
 ghost use Rattle.meaning.specs.Table.{most_rows, rows, end};
 ghost use Rattle.meaning.specs.Axis.{axis_of, under, inside, after, on};
-ghost use Rattle.meaning.specs.Axis.Axis.{following_sibling, preceding_sibling};
+ghost use Rattle.meaning.specs.declared.Axis.TheVariants.{FollowingSibling, PrecedingSibling};
 ghost use Rattle.reach.specs.Reach.{Hits, Room, admitted, beyond};
 
 use basics::{below, both, either};
@@ -173,7 +173,7 @@ fn mark_before(table: &[u32], given: bool, taken: bool, marks: &mut [bool])
 // A row is marked if a marked sibling was passed: seen has a flag for each parent. Row 0 has no siblings, and no attribute has.
 fn mark_later_siblings(table: &[u32], marks: &mut [bool])
     requires { Room table.now marks.old }
-    ensures { Hits table.now (on table.now following_sibling) marks.old marks.new }
+    ensures { Hits table.now (on table.now FollowingSibling) marks.old marks.new }
 {
     let n = row_count(table);
     let mut seen = [false; MOST_ROWS];
@@ -192,7 +192,7 @@ fn mark_later_siblings(table: &[u32], marks: &mut [bool])
 // The same from the last row down.
 fn mark_earlier_siblings(table: &[u32], marks: &mut [bool])
     requires { Room table.now marks.old }
-    ensures { Hits table.now (on table.now preceding_sibling) marks.old marks.new }
+    ensures { Hits table.now (on table.now PrecedingSibling) marks.old marks.new }
 {
     let mut seen = [false; MOST_ROWS];
     let mut i = row_count(table);

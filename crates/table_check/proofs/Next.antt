@@ -16,7 +16,7 @@ use Rattle.meaning.specs.Lists.{up_to, some, lowest}
 use Rattle.meaning.specs.Table.{rows, most_rows, length_allowed, kind, name, parent_of, size, end, is_element, is_text, is_attribute, good_root, nearest, good_parent, text_of_root, element_of_root, later_element, previous_sibling, text_after_text, among_attributes, stray_attribute, attribute_again, good_row, broken}
 use Rattle.meaning.proofs.Bools.{and_l, and_r, and_i, truly, is_true, same, eq→eqb, lt_or_ge, eq_or_ne}
 use Rattle.meaning.proofs.Lists.{none_below}
-use Rattle.meaning.proofs.Tables.{Child, length_within_lem, good_parent_lem, good_child_lem, nearest_largest}
+use Rattle.meaning.proofs.Tables.{ChildRow, length_within_lem, good_parent_lem, good_child_lem, nearest_largest}
 use Rattle.meaning.proofs.Checks.{Passed, passed_start, passed_more, passed_found}
 use Rattle.table_check.specs.Next.{good_numbers, well_placed, Stands, Next, Behind}
 
@@ -102,7 +102,7 @@ module _ (t : List ℕ) where
     pub placed_parent : well_placed t i ≡ true → good_parent t i ≡ true
     placed_parent h = is_true (good_parent t i) (and_r (good_numbers (kind t i) (name t i) (size t i)) (good_parent t i) (truly h))
 
-    module _ (c : Child t i) (m : ℕ) (s : Stands t i (parent_of t i) m) where
+    module _ (c : ChildRow t i) (m : ℕ) (s : Stands t i (parent_of t i) m) where
       -- the first child of row i must stand right behind it
       stands_own : Stands t (i + 1) i (i + 1)
       stands_own = record {
@@ -125,7 +125,7 @@ module _ (t : List ℕ) where
       }
 
     -- any other row's next child must stand where it did
-    stands_other : Child t i → (p m : ℕ) → p < i → (p ≡ parent_of t i → ⊥) → Stands t i p m → Stands t (i + 1) p m
+    stands_other : ChildRow t i → (p m : ℕ) → p < i → (p ≡ parent_of t i → ⊥) → Stands t i p m → Stands t (i + 1) p m
     stands_other c p m l q s = record {
       within = s.within;
       ended = λ k a b d. elim (eq-or-lt_of_le {n = k} {m = i} (omega arith)) [
@@ -149,7 +149,7 @@ module _ (t : List ℕ) where
 
     module _ (next : List ℕ) (known : Next t i next) (sound : good_row t i ≡ true) where
       -- what a sound row's parent says, and that the row stands where that one's next child must
-      pub sound_child : Child t i
+      pub sound_child : ChildRow t i
       sound_child = good_child_lem t i (truly sound)
 
       pub parent_stands : Stands t i (parent_of t i) (get_or next (parent_of t i) 0)
@@ -166,7 +166,7 @@ module _ (t : List ℕ) where
       pub next_more : i < length next → Next t (i + 1) (set (set next i (i + 1)) (parent_of t i) (end t i + 1))
       unfolding Next
       next_more a p l =
-          let c : Child t i = sound_child in
+          let c : ChildRow t i = sound_child in
           let q : ℕ = parent_of t i in
           let own : List ℕ = set next i (i + 1) in
           let b : q < length own = simp length-set (omega (arith, c.below)) in

@@ -15,7 +15,7 @@ use Rattle.meaning.specs.Lists.{up_to, some}
 use Rattle.meaning.specs.Table.{kind, parent_of, rows, end, is_element, is_text, is_attribute, has_element, good_parent, element_of_root, later_element, sibling_before, previous_sibling, text_after_text}
 use Rattle.meaning.proofs.Bools.{and_l, and_r, and_i, truly, untrue, same, is_true, is_false, not_e, lt_or_ge}
 use Rattle.meaning.proofs.Lists.{some_to, some_from, has_up_to_to, has_up_to_from, none_below, lowest_some, lowest_below, lowest_at}
-use Rattle.meaning.proofs.Tables.{Sound, row_holds, Child, good_child_lem, parent_child}
+use Rattle.meaning.proofs.Tables.{Sound, row_holds, ChildRow, good_child_lem, parent_child}
 use Rattle.meaning.proofs.DataModel.{inner, holder, first_of_root, among_row, among}
 use Rattle.table_check.specs.Next.{first_element}
 
@@ -60,8 +60,8 @@ module _ (t : List ℕ) (i : ℕ) (sound : Sound t i) where
   -- the row behind a text has the text's parent, where that reaches so far
   behind_text : (j : ℕ) → 0 < j → j + 1 < i → T (is_text t j) → j + 1 ≤ end t (parent_of t j) → parent_of t (j + 1) ≡ parent_of t j
   behind_text j p l x r =
-      let c : Child t j = good_child_lem t j (row_holds t i sound j p (omega arith)) in
-      let d : Child t (j + 1) = good_child_lem t (j + 1) (row_holds t i sound (j + 1) (omega arith) l) in
+      let c : ChildRow t j = good_child_lem t j (row_holds t i sound j p (omega arith)) in
+      let d : ChildRow t (j + 1) = good_child_lem t (j + 1) (row_holds t i sound (j + 1) (omega arith) l) in
       let q : ℕ = parent_of t (j + 1) in
       elim (eq-or-lt_of_le {n = q} {m = j} (omega (arith, d.below))) [
         | inl e ↦ absurd (omega (arith, text_alone j p (omega arith) x, rw e at d.reached))
@@ -78,7 +78,7 @@ module _ (t : List ℕ) (i : ℕ) (sound : Sound t i) where
       ])
 
   -- a text that is the previous sibling of row i is the row before it
-  text_is_before : Child t i → (j : ℕ) → j < i → T (previous_sibling t i j) → T (is_text t j) → j + 1 ≡ i
+  text_is_before : ChildRow t i → (j : ℕ) → j < i → T (previous_sibling t i j) → T (is_text t j) → j + 1 ≡ i
   unfolding previous_sibling
   text_is_before c j l h x =
       let p : T (ltb 0 j) = search (and_l, and_r) in

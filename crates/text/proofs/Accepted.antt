@@ -14,6 +14,7 @@ use native.Mathlib.Omega.{arith}
 use borrow.Author.Tests.{lt-ltb, le-ltb, le-leb, lt-leb, eq-eqb}
 use Rattle.meaning.specs.Lists.{up_to, some, lowest}
 use Rattle.meaning.specs.Rows.{is_path, takes, is_link, may_miss, most_path_rows, most_literals, path_length_allowed, bad_literal_at, broken_row}
+use Rattle.meaning.specs.declared.Field.TheVariants.{PathLink}
 use Rattle.meaning.specs.Rows as R
 use Rattle.meaning.specs.Tree.{Tree, none, node, tree, depth, most_depth}
 use Rattle.meaning.specs.Turning.{weight, written}
@@ -75,7 +76,7 @@ length_checked e h =
     decide (inl k) = rw (lt-leb (weight e) most_path_rows k, lt-ltb most_path_rows (weight e) k)
     decide (inr k) = rw (le-leb (weight e) most_path_rows k, le-ltb most_path_rows (weight e) k)
 
-module _ (literals : List Float) (e : Tree) (fits : Fits (length literals) R.path_link e) where
+module _ (literals : List Float) (e : Tree) (fits : Fits (length literals) PathLink e) where
   -- a tree that fits a path's place is read back from its rows
   pub fit_read_back : path_tree (written 0 e) ≡ e
   fit_read_back = ap (tree (written 0 e)) (written_rows e) ∙ written_reads_back e fits.tidy
@@ -84,7 +85,7 @@ module _ (literals : List Float) (e : Tree) (fits : Fits (length literals) R.pat
   fit_rows : (0 < weight e) × GoodRows (written 0 e) (length literals)
   fit_rows = by e fits
     where
-      by : (e : Tree) → Fits (length literals) R.path_link e → (0 < weight e) × GoodRows (written 0 e) (length literals)
+      by : (e : Tree) → Fits (length literals) PathLink e → (0 < weight e) × GoodRows (written 0 e) (length literals)
       by none f = absurd (unfold good_held is_link good_child may_miss in f.taken)
       by (node op a b c d) f = (
         unfold weight in omega arith,
@@ -113,7 +114,7 @@ module _ (s : Source) (ts : List Token) (d : Sentence ts) (no-faults : text_faul
   text_literals = good_literals s (syntax_of ts) (rear_none (as_path s (syntax_of ts)) (faults s (syntax_of ts)) no-faults)
 
   -- and its tree fits a path's place
-  tree_fits : Fits (length (literals_of s (syntax_of ts))) R.path_link (tree_of s (syntax_of ts))
+  tree_fits : Fits (length (literals_of s (syntax_of ts))) PathLink (tree_of s (syntax_of ts))
   unfolding literals_of tree_of
   tree_fits = text_held s (literals_of s (syntax_of ts)) good-names ts d no-faults (all_known [] (values s (syntax_of ts)) text_literals)
 

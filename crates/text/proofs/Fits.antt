@@ -7,8 +7,12 @@ use mathlib.Core.Bool.{Bool, true, false, ◌&&◌, not, cond}
 use lib.Dec.{T, leb, ltb, lt→ltb, eqb→eq}
 use Rattle.meaning.specs.Lists.{up_to, some}
 use Rattle.meaning.specs.Axis.{last_axis}
-use Rattle.meaning.specs.Rows.{Op, Field, Fields, code, op_of, fields_of, is_number, is_truth, is_path, is_step, is_predicate, is_literal, is_unknown, is_link, takes, may_miss, good_test, good_field}
-use Rattle.meaning.specs.Rows as R
+use Rattle.meaning.specs.declared.Op.{Op}
+use Rattle.meaning.specs.declared.Op.TheVariants.{Literal, Step, Unknown}
+use Rattle.meaning.specs.declared.Field.{Field}
+use Rattle.meaning.specs.declared.Field.TheVariants.{AxisNumber, ExpressionLink, LiteralIndex, NumberLink, PathLink, PredicateOrNone, StepLink, StepOrNone, TestNumber, TruthLink, Unused}
+use Rattle.meaning.specs.declared.Fields.{Fields}
+use Rattle.meaning.specs.Rows.{code, op_of, fields_of, is_number, is_truth, is_path, is_step, is_predicate, is_literal, is_unknown, is_link, takes, may_miss, good_test, good_field}
 use Rattle.meaning.specs.Tree.{Tree, none, node}
 use Rattle.meaning.proofs.Bools.{and_i, or_i_l, or_i_r, not_false, is_false}
 use Rattle.meaning.proofs.Ops.{op_code, every_op}
@@ -27,31 +31,31 @@ pub record Fits (n : ℕ) (f : Field) (a : Tree) : Type 0 where
 -- what takes an op is a link, and no field takes an unknown op
 takes_link : (f : Field) (op : Op) → T (takes f op) → is_link f ≡ true
 unfolding takes is_link
-takes_link R.unused op h = absurd h
-takes_link R.index op h = absurd h
-takes_link R.axis op h = absurd h
-takes_link R.test op h = absurd h
-takes_link R.number_link op h = refl
-takes_link R.truth_link op h = refl
-takes_link R.expression_link op h = refl
-takes_link R.path_link op h = refl
-takes_link R.step_link op h = refl
-takes_link R.step_or_none op h = refl
-takes_link R.predicate_or_none op h = refl
+takes_link Unused op h = absurd h
+takes_link LiteralIndex op h = absurd h
+takes_link AxisNumber op h = absurd h
+takes_link TestNumber op h = absurd h
+takes_link NumberLink op h = refl
+takes_link TruthLink op h = refl
+takes_link ExpressionLink op h = refl
+takes_link PathLink op h = refl
+takes_link StepLink op h = refl
+takes_link StepOrNone op h = refl
+takes_link PredicateOrNone op h = refl
 
-takes_no_unknown : (f : Field) → T (takes f R.unknown) → ⊥
+takes_no_unknown : (f : Field) → T (takes f Unknown) → ⊥
 unfolding takes is_number is_truth is_path is_step is_predicate code
-takes_no_unknown R.unused h = h
-takes_no_unknown R.index h = h
-takes_no_unknown R.axis h = h
-takes_no_unknown R.test h = h
-takes_no_unknown R.number_link h = h
-takes_no_unknown R.truth_link h = h
-takes_no_unknown R.expression_link h = h
-takes_no_unknown R.path_link h = h
-takes_no_unknown R.step_link h = h
-takes_no_unknown R.step_or_none h = h
-takes_no_unknown R.predicate_or_none h = h
+takes_no_unknown Unused h = h
+takes_no_unknown LiteralIndex h = h
+takes_no_unknown AxisNumber h = h
+takes_no_unknown TestNumber h = h
+takes_no_unknown NumberLink h = h
+takes_no_unknown TruthLink h = h
+takes_no_unknown ExpressionLink h = h
+takes_no_unknown PathLink h = h
+takes_no_unknown StepLink h = h
+takes_no_unknown StepOrNone h = h
+takes_no_unknown PredicateOrNone h = h
 
 takes_known : (f : Field) (op : Op) → T (takes f op) → is_unknown op ≡ false
 unfolding is_unknown op_of
@@ -62,17 +66,17 @@ takes_known f op h =
 -- 0 stands where nothing does, however many literals there are
 zero_held : (n : ℕ) (f : Field) → T (good_held 0 f none 0) → T (good_held n f none 0)
 unfolding good_held is_link good_field
-zero_held n R.unused h = h
-zero_held n R.index h = absurd h
-zero_held n R.axis h = h
-zero_held n R.test h = h
-zero_held n R.number_link h = h
-zero_held n R.truth_link h = h
-zero_held n R.expression_link h = h
-zero_held n R.path_link h = h
-zero_held n R.step_link h = h
-zero_held n R.step_or_none h = h
-zero_held n R.predicate_or_none h = h
+zero_held n Unused h = h
+zero_held n LiteralIndex h = absurd h
+zero_held n AxisNumber h = h
+zero_held n TestNumber h = h
+zero_held n NumberLink h = h
+zero_held n TruthLink h = h
+zero_held n ExpressionLink h = h
+zero_held n PathLink h = h
+zero_held n StepLink h = h
+zero_held n StepOrNone h = h
+zero_held n PredicateOrNone h = h
 
 -- so 0 stands in a field of every op, if it does in that of each of the 26
 every_zero :
@@ -127,51 +131,51 @@ module _ (n : ℕ) where
 
   -- a step behind the chain a, with predicates b, an axis and a test
   pub step_fits :
-      (a b : Tree) (axis test : ℕ) → Fits n R.step_or_none a → Fits n R.predicate_or_none b → T (leb axis last_axis) → T (good_test test)
-      → Fits n R.step_link (node R.step a b axis test)
+      (a b : Tree) (axis test : ℕ) → Fits n StepOrNone a → Fits n PredicateOrNone b → T (leb axis last_axis) → T (good_test test)
+      → Fits n StepLink (node Step a b axis test)
   unfolding takes good_node good_held fields_of is_link is_literal is_step code good_field
   step_fits a b axis test fa fb h k =
-      let A : Bool = good_child R.step_or_none a in
-      let B : Bool = good_child R.predicate_or_none b in
-      taken_node n R.step_link R.step a b axis test tt (refl, refl, refl, refl, fa.tidy, fb.tidy)
+      let A : Bool = good_child StepOrNone a in
+      let B : Bool = good_child PredicateOrNone b in
+      taken_node n StepLink Step a b axis test tt (refl, refl, refl, refl, fa.tidy, fb.tidy)
       (and_i (A && B && leb axis last_axis) (good_test test) (and_i (A && B) (leb axis last_axis) (and_i A B fa.taken fb.taken) h) k)
       fa.made fb.made
 
   -- a literal's index is below the number of literals
-  pub literal_fits : (i : ℕ) → i < n → Fits n R.number_link (node R.literal none none i 0)
+  pub literal_fits : (i : ℕ) → i < n → Fits n NumberLink (node Literal none none i 0)
   unfolding takes is_number good_node good_held fields_of is_link is_literal is_step code good_field
   literal_fits i h =
-      taken_node n R.number_link R.literal none none i 0 tt (refl, refl, refl, refl, tt, tt)
+      taken_node n NumberLink Literal none none i 0 tt (refl, refl, refl, refl, tt, tt)
       (and_i (ltb i n && true && true) true (and_i (ltb i n && true) true (and_i (ltb i n) true (lt→ltb i n h) tt) tt) tt) tt tt
 
   -- ---- no tree
 
-  pub none_unused : Fits n R.unused none
+  pub none_unused : Fits n Unused none
   unfolding good_held is_link good_field
   none_unused = record { tidy = tt; made = tt; taken = tt; kept = refl }
 
-  pub no_step : Fits n R.step_or_none none
+  pub no_step : Fits n StepOrNone none
   unfolding good_held is_link good_child may_miss
   no_step = record { tidy = tt; made = tt; taken = tt; kept = refl }
 
-  pub no_predicate : Fits n R.predicate_or_none none
+  pub no_predicate : Fits n PredicateOrNone none
   unfolding good_held is_link good_child may_miss
   no_predicate = record { tidy = tt; made = tt; taken = tt; kept = refl }
 
   -- ---- fields that take more
 
-  pub some_steps : (a : Tree) → Fits n R.step_link a → Fits n R.step_or_none a
+  pub some_steps : (a : Tree) → Fits n StepLink a → Fits n StepOrNone a
   unfolding good_held is_link good_child may_miss takes
   some_steps none h = absurd h.taken
   some_steps (node op a b c d) h = record { tidy = h.tidy; made = h.made; taken = h.taken; kept = refl }
 
-  pub number_expression : (a : Tree) → Fits n R.number_link a → Fits n R.expression_link a
+  pub number_expression : (a : Tree) → Fits n NumberLink a → Fits n ExpressionLink a
   unfolding good_held is_link good_child may_miss takes
   number_expression none h = absurd h.taken
   number_expression (node op a b c d) h =
       record { tidy = h.tidy; made = h.made; taken = or_i_l (is_number op) (is_truth op) h.taken; kept = refl }
 
-  pub truth_expression : (a : Tree) → Fits n R.truth_link a → Fits n R.expression_link a
+  pub truth_expression : (a : Tree) → Fits n TruthLink a → Fits n ExpressionLink a
   unfolding good_held is_link good_child may_miss takes
   truth_expression none h = absurd h.taken
   truth_expression (node op a b c d) h =

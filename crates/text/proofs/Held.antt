@@ -11,8 +11,9 @@ use lib.Dec.{T, eqb, leb, ltb, ltb→lt, le→leb, eqb→eq}
 use lib.Ieee.{Float}
 use native.Mathlib.Omega.{arith}
 use Rattle.meaning.specs.Axis.{last_axis}
+use Rattle.meaning.specs.declared.Op.TheVariants.{Absolute, Add, And, Count, Divide, Equal, Exists, Greater, GreaterEqual, Last, Less, LessEqual, Multiply, Negate, Negation, Or, Position, Predicate, Relative, Remainder, Step, Subtract, TruthOf, Unequal}
+use Rattle.meaning.specs.declared.Field.TheVariants.{ExpressionLink, NumberLink, PathLink, PredicateOrNone, StepLink, StepOrNone, TruthLink}
 use Rattle.meaning.specs.Rows.{code, fields_of, takes, is_number, is_truth, is_path, is_predicate, good_test}
-use Rattle.meaning.specs.Rows as R
 use Rattle.meaning.specs.Tree.{Tree, none, node}
 use Rattle.meaning.proofs.Bools.{truly, untrue, and_i, or_i_l, or_i_r, or_none_r, lt_or_ge}
 use Rattle.meaning.proofs.Lists.{below_none}
@@ -78,19 +79,19 @@ type_test w =
 module _ (n : ℕ) where
   -- a tree fits a sort
   abbrev FitsSort : Sort → Tree → Type 0
-  FitsSort Numeral t = Fits n R.number_link t
-  FitsSort Truth t = Fits n R.truth_link t
-  FitsSort Nodes t = Fits n R.path_link t
+  FitsSort Numeral t = Fits n NumberLink t
+  FitsSort Truth t = Fits n TruthLink t
+  FitsSort Nodes t = Fits n PathLink t
   FitsSort Unheld t = ⊥
 
-  as_number_lem : (u : Sort) (t : Tree) → number_taken u ≡ true → FitsSort u t → Fits n R.number_link t
+  as_number_lem : (u : Sort) (t : Tree) → number_taken u ≡ true → FitsSort u t → Fits n NumberLink t
   unfolding number_taken
   as_number_lem Numeral t e h = h
   as_number_lem Truth t e h = absurd (true≢false (sym e))
   as_number_lem Nodes t e h = absurd (true≢false (sym e))
   as_number_lem Unheld t e h = absurd h
 
-  as_path_lem : (u : Sort) (t : Tree) → path_taken u ≡ true → FitsSort u t → Fits n R.path_link t
+  as_path_lem : (u : Sort) (t : Tree) → path_taken u ≡ true → FitsSort u t → Fits n PathLink t
   unfolding path_taken
   as_path_lem Numeral t e h = absurd (true≢false (sym e))
   as_path_lem Truth t e h = absurd (true≢false (sym e))
@@ -98,27 +99,27 @@ module _ (n : ℕ) where
   as_path_lem Unheld t e h = absurd h
 
   -- where a truth is wanted there is one, and a whole predicate is a number or a truth
-  as_truth_lem : (u : Sort) (t : Tree) → FitsSort u t → Fits n R.truth_link (as_truth u t)
+  as_truth_lem : (u : Sort) (t : Tree) → FitsSort u t → Fits n TruthLink (as_truth u t)
   unfolding as_truth takes is_truth code fields_of
-  as_truth_lem Numeral t h = op_fits n R.truth_link R.truth t none tt h (none_unused n)
+  as_truth_lem Numeral t h = op_fits n TruthLink TruthOf t none tt h (none_unused n)
   as_truth_lem Truth t h = h
-  as_truth_lem Nodes t h = op_fits n R.truth_link R.exists t none tt h (none_unused n)
+  as_truth_lem Nodes t h = op_fits n TruthLink Exists t none tt h (none_unused n)
   as_truth_lem Unheld t h = absurd h
 
-  as_predicate_lem : (u : Sort) (t : Tree) → FitsSort u t → Fits n R.expression_link (as_predicate u t)
+  as_predicate_lem : (u : Sort) (t : Tree) → FitsSort u t → Fits n ExpressionLink (as_predicate u t)
   unfolding as_predicate takes is_number is_truth code fields_of
   as_predicate_lem Numeral t h = number_expression n t h
   as_predicate_lem Truth t h = truth_expression n t h
-  as_predicate_lem Nodes t h = op_fits n R.expression_link R.exists t none tt h (none_unused n)
+  as_predicate_lem Nodes t h = op_fits n ExpressionLink Exists t none tt h (none_unused n)
   as_predicate_lem Unheld t h = absurd h
 
   -- `//` adds a step
-  descends : (t : Token) (before : Tree) → Fits n R.step_or_none before → Fits n R.step_or_none (descended t before)
+  descends : (t : Token) (before : Tree) → Fits n StepOrNone before → Fits n StepOrNone (descended t before)
   unfolding descended good_test
   descends t before h = decide (eqb (L.code t) (L.code '//'))
     where
-      decide : (b : Bool) → Fits n R.step_or_none (cond b (node R.step before none 5 0) before)
-      decide true = some_steps n (node R.step before none 5 0) (step_fits n before none 5 0 h (no_predicate n) tt tt)
+      decide : (b : Bool) → Fits n StepOrNone (cond b (node Step before none 5 0) before)
+      decide true = some_steps n (node Step before none 5 0) (step_fits n before none 5 0 h (no_predicate n) tt tt)
       decide false = h
 
 module _ (s : Source) (l : List Float) where
@@ -178,11 +179,11 @@ module _ (s : Source) (l : List Float) where
 
   -- steps behind steps are steps
   abbrev Walks : Syntax → Type 0
-  Walks x = Clean x → (before : Tree) → Fits n R.step_or_none before → Fits n R.step_link (held s l before x)
+  Walks x = Clean x → (before : Tree) → Fits n StepOrNone before → Fits n StepLink (held s l before x)
 
   -- predicates behind predicates
   abbrev Keeps : Syntax → Type 0
-  Keeps x = Clean x → (before : Tree) → Fits n R.predicate_or_none before → Fits n R.predicate_or_none (held s l before x)
+  Keeps x = Clean x → (before : Tree) → Fits n PredicateOrNone before → Fits n PredicateOrNone (held s l before x)
 
   abbrev AxisGood : Syntax → Type 0
   AxisGood x = Clean x → T (leb (axis_of s x) last_axis)
@@ -211,7 +212,7 @@ module _ (s : Source) (l : List Float) where
   negative_held : (i : ℕ) (c : Syntax) → Expression c → Expression (part negative '-' i blank blank c)
   unfolding sort held own as_number takes is_number code fields_of
   negative_held i c h clean =
-      op_fits n R.number_link R.negate (alone c) none tt
+      op_fits n NumberLink Negate (alone c) none tt
       (as_number_lem n (sort s c) (alone c) (passed (number_taken (sort s c)) _ (own_clean clean)) (h (third_clean clean refl))) (none_unused n)
 
   -- a call that is held, over its argument where it has one
@@ -219,15 +220,15 @@ module _ (s : Source) (l : List Float) where
       (f : Function) (c : Syntax) → T (holds_call f (arity c)) → argument_faults s f c ≡ [] → (0 < arity c → FitsSort n (sort s c) (alone c))
       → FitsSort n (result_of f) (called f (sort s c) (alone c))
   unfolding holds_call argument_faults result_of called as_path takes is_number is_truth code fields_of
-  called_fits position_function c g e h = op_fits n R.number_link R.position none none tt (none_unused n) (none_unused n)
-  called_fits last_function c g e h = op_fits n R.number_link R.last none none tt (none_unused n) (none_unused n)
+  called_fits position_function c g e h = op_fits n NumberLink Position none none tt (none_unused n) (none_unused n)
+  called_fits last_function c g e h = op_fits n NumberLink Last none none tt (none_unused n) (none_unused n)
   called_fits count_function c g e h =
       let one : arity c ≡ 1 = eqb→eq (arity c) 1 g in
-      op_fits n R.number_link R.count (alone c) none tt
+      op_fits n NumberLink Count (alone c) none tt
       (as_path_lem n (sort s c) (alone c) (passed (path_taken (sort s c)) _ e) (h (omega arith))) (none_unused n)
   called_fits not_function c g e h =
       let one : arity c ≡ 1 = eqb→eq (arity c) 1 g in
-      op_fits n R.truth_link R.negation (as_truth (sort s c) (alone c)) none tt
+      op_fits n TruthLink Negation (as_truth (sort s c) (alone c)) none tt
       (as_truth_lem n (sort s c) (alone c) (h (omega arith))) (none_unused n)
   called_fits boolean_function c g e h =
       let one : arity c ≡ 1 = eqb→eq (arity c) 1 g in
@@ -248,7 +249,7 @@ module _ (s : Source) (l : List Float) where
   -- an op over two numbers, and over two truths
   numbers_held :
       (t : Token) (i : ℕ) (a c : Syntax) → leb 3 (tightness t) ≡ true → leb (tightness t) 2 ≡ false
-      → ((x y : Tree) → Fits n R.number_link x → Fits n R.number_link y → FitsSort n (operator_sort t) (node (operation t) x y 0 0))
+      → ((x y : Tree) → Fits n NumberLink x → Fits n NumberLink y → FitsSort n (operator_sort t) (node (operation t) x y 0 0))
       → Expression a → Expression c → Expression (part binary t i a blank c)
   unfolding sort held own as_number operand_of
   numbers_held t i a c e f op ha hc clean =
@@ -261,7 +262,7 @@ module _ (s : Source) (l : List Float) where
 
   truths_held :
       (t : Token) (i : ℕ) (a c : Syntax) → leb (tightness t) 2 ≡ true
-      → ((x y : Tree) → Fits n R.truth_link x → Fits n R.truth_link y → FitsSort n (operator_sort t) (node (operation t) x y 0 0))
+      → ((x y : Tree) → Fits n TruthLink x → Fits n TruthLink y → FitsSort n (operator_sort t) (node (operation t) x y 0 0))
       → Expression a → Expression c → Expression (part binary t i a blank c)
   unfolding sort held operand_of
   truths_held t i a c e op ha hc clean =
@@ -273,18 +274,18 @@ module _ (s : Source) (l : List Float) where
   relative_held : (i : ℕ) (c : Syntax) → Walks c → Expression (part relative unknown i blank blank c)
   unfolding sort held takes is_path code fields_of
   relative_held i c h clean =
-      op_fits n R.path_link R.relative (alone c) none tt (h (third_clean clean refl) none (no_step n)) (none_unused n)
+      op_fits n PathLink Relative (alone c) none tt (h (third_clean clean refl) none (no_step n)) (none_unused n)
 
   absolute_held : (t : Token) (i : ℕ) (c : Syntax) → Walks c → Expression (part absolute t i blank blank c)
   unfolding sort held takes is_path code fields_of
   absolute_held t i c h clean =
-      op_fits n R.path_link R.absolute (held s l (descended t none) c) none tt
+      op_fits n PathLink Absolute (held s l (descended t none) c) none tt
       (some_steps n (held s l (descended t none) c) (h (third_clean clean refl) (descended t none) (descends n t none (no_step n))))
       (none_unused n)
 
   root_held : (i : ℕ) → Expression (part absolute '/' i blank blank blank)
   unfolding sort held takes is_path code fields_of
-  root_held i clean = op_fits n R.path_link R.absolute (descended '/' none) none tt (descends n '/' none (no_step n)) (none_unused n)
+  root_held i clean = op_fits n PathLink Absolute (descended '/' none) none tt (descends n '/' none (no_step n)) (none_unused n)
 
   chain_held : (t : Token) (i : ℕ) (a c : Syntax) → Walks a → Walks c → Walks (part chain t i a blank c)
   unfolding held
@@ -314,8 +315,8 @@ module _ (s : Source) (l : List Float) where
   unfolding held takes is_predicate code fields_of
   predicate_held i a c ha hc clean before h =
       let e : Tree = as_predicate (sort s a) (alone a) in
-      hc (third_clean clean refl) (node R.predicate before e 0 0)
-      (op_fits n R.predicate_or_none R.predicate before e tt h (as_predicate_lem n (sort s a) (alone a) (ha (first_clean clean refl))))
+      hc (third_clean clean refl) (node Predicate before e 0 0)
+      (op_fits n PredicateOrNone Predicate before e tt h (as_predicate_lem n (sort s a) (alone a) (ha (first_clean clean refl))))
 
   -- ---- axes and tests
 
@@ -449,24 +450,24 @@ module _ (s : Source) (l : List Float) where
       (through, (over_two (λ i x y v w. unheld onward '/' i x y refl), (over_two (λ i x y v w. unheld onward '//' i x y refl), tt))),
     )
     every FilterExpr = (through, (over_two (λ i x y v w. unheld filter unknown i x y refl), tt))
-    every OrExpr = (through, (over_two (λ i x y. truths_held 'or' i x y refl (λ u v. op_fits n R.truth_link R.or u v tt)), tt))
-    every AndExpr = (through, (over_two (λ i x y. truths_held 'and' i x y refl (λ u v. op_fits n R.truth_link R.and u v tt)), tt))
+    every OrExpr = (through, (over_two (λ i x y. truths_held 'or' i x y refl (λ u v. op_fits n TruthLink Or u v tt)), tt))
+    every AndExpr = (through, (over_two (λ i x y. truths_held 'and' i x y refl (λ u v. op_fits n TruthLink And u v tt)), tt))
     every EqualityExpr = (
       through,
       (
-        over_two (λ i x y. numbers_held '=' i x y refl refl (λ u v. op_fits n R.truth_link R.equal u v tt)),
-        (over_two (λ i x y. numbers_held '!=' i x y refl refl (λ u v. op_fits n R.truth_link R.unequal u v tt)), tt),
+        over_two (λ i x y. numbers_held '=' i x y refl refl (λ u v. op_fits n TruthLink Equal u v tt)),
+        (over_two (λ i x y. numbers_held '!=' i x y refl refl (λ u v. op_fits n TruthLink Unequal u v tt)), tt),
       ),
     )
     every RelationalExpr = (
       through,
       (
-        over_two (λ i x y. numbers_held '<' i x y refl refl (λ u v. op_fits n R.truth_link R.less u v tt)),
+        over_two (λ i x y. numbers_held '<' i x y refl refl (λ u v. op_fits n TruthLink Less u v tt)),
         (
-          over_two (λ i x y. numbers_held '>' i x y refl refl (λ u v. op_fits n R.truth_link R.greater u v tt)),
+          over_two (λ i x y. numbers_held '>' i x y refl refl (λ u v. op_fits n TruthLink Greater u v tt)),
           (
-            over_two (λ i x y. numbers_held '<=' i x y refl refl (λ u v. op_fits n R.truth_link R.less_equal u v tt)),
-            (over_two (λ i x y. numbers_held '>=' i x y refl refl (λ u v. op_fits n R.truth_link R.greater_equal u v tt)), tt),
+            over_two (λ i x y. numbers_held '<=' i x y refl refl (λ u v. op_fits n TruthLink LessEqual u v tt)),
+            (over_two (λ i x y. numbers_held '>=' i x y refl refl (λ u v. op_fits n TruthLink GreaterEqual u v tt)), tt),
           ),
         ),
       ),
@@ -474,17 +475,17 @@ module _ (s : Source) (l : List Float) where
     every AdditiveExpr = (
       through,
       (
-        over_two (λ i x y. numbers_held '+' i x y refl refl (λ u v. op_fits n R.number_link R.add u v tt)),
-        (over_two (λ i x y. numbers_held '-' i x y refl refl (λ u v. op_fits n R.number_link R.subtract u v tt)), tt),
+        over_two (λ i x y. numbers_held '+' i x y refl refl (λ u v. op_fits n NumberLink Add u v tt)),
+        (over_two (λ i x y. numbers_held '-' i x y refl refl (λ u v. op_fits n NumberLink Subtract u v tt)), tt),
       ),
     )
     every MultiplicativeExpr = (
       through,
       (
-        over_two (λ i x y. numbers_held MultiplyOperator i x y refl refl (λ u v. op_fits n R.number_link R.multiply u v tt)),
+        over_two (λ i x y. numbers_held MultiplyOperator i x y refl refl (λ u v. op_fits n NumberLink Multiply u v tt)),
         (
-          over_two (λ i x y. numbers_held 'div' i x y refl refl (λ u v. op_fits n R.number_link R.divide u v tt)),
-          (over_two (λ i x y. numbers_held 'mod' i x y refl refl (λ u v. op_fits n R.number_link R.remainder u v tt)), tt),
+          over_two (λ i x y. numbers_held 'div' i x y refl refl (λ u v. op_fits n NumberLink Divide u v tt)),
+          (over_two (λ i x y. numbers_held 'mod' i x y refl refl (λ u v. op_fits n NumberLink Remainder u v tt)), tt),
         ),
       ),
     )
@@ -502,7 +503,7 @@ module _ (s : Source) (l : List Float) where
     -- a text without faults is held as a path
     pub text_held :
         (ts : List Token) (d : Sentence ts) → text_faults s (syntax_of ts) ≡ [] → Known l (values s (syntax_of ts))
-        → Fits n R.path_link (held s l none (syntax_of ts))
+        → Fits n PathLink (held s l none (syntax_of ts))
     unfolding text_faults as_path
     text_held ts d e k =
         let x : Syntax = syntax_of ts in

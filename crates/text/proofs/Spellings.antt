@@ -15,7 +15,7 @@ use lib.ListN.{length, get_or, get_or-map}
 use lib.Dec.{eqb}
 use lib.Ieee.{Float}
 use borrow.Author.Tests.{eqb-false, not-true}
-use Rattle.meaning.specs.Rows as R
+use Rattle.meaning.specs.declared.Op.TheVariants.{Predicate}
 use Rattle.meaning.specs.Tree.{Tree, none, node}
 use Rattle.meaning.specs.Turning.{weight, written}
 use Rattle.meaning.specs.Answers.{answer}
@@ -254,7 +254,7 @@ module _ (s s' : Source) (same_names : s.names ≡ s'.names) where
   held_alike l before (parts {k = target} w x y z) = refl
   held_alike {p} l before (parts {k = predicates} {a' = a'} w x y z) =
       let inner : Tree = as_predicate (sort s' a') (held s' l none a') in
-      rw (sort_alike x, held_alike l none x, held_alike l (node R.predicate (front p before) inner 0 0) z)
+      rw (sort_alike x, held_alike l none x, held_alike l (node Predicate (front p before) inner 0 0) z)
 
   -- the literals and the tree of a text
   literals_alike : {e e' : Syntax} → Worded expression e e' → literals_of s e ≡ literals_of s' e'

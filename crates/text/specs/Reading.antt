@@ -3,8 +3,9 @@
 -- Assumes nothing: these are definitions.
 use Rattle.std.specs.Prelude.{ℕ, suc, ◌+◌, ◌-◌, ◌*◌, ◌≡◌, cond, List, [], ◌∷◌, ◌++◌, length, get_or, drop, eqb, ltb, leb, Float}
 use Rattle.std.specs.Float.Ieee as Ieee
-use Rattle.meaning.specs.Rows.{Op, most_path_rows, most_literals}
-use Rattle.meaning.specs.Rows as R
+use Rattle.meaning.specs.Rows.{most_path_rows, most_literals}
+use Rattle.meaning.specs.declared.Op.{Op}
+use Rattle.meaning.specs.declared.Op.TheVariants.{Absolute, Add, And, Count, Divide, Equal, Exists, Greater, GreaterEqual, Last, Less, LessEqual, Literal, Multiply, Negate, Negation, Or, Position, Predicate, Relative, Remainder, Step, Subtract, TruthOf, Unequal, Unknown}
 use Rattle.meaning.specs.Tree.{Tree, none, node, depth, most_depth}
 use Rattle.meaning.specs.Turning.{weight, written}
 use Rattle.meaning.specs.Answers.{answer, check}
@@ -54,33 +55,33 @@ literals_of s e = distinct [] (values s e)
 unfoldable pub operation : Token → Op
 operation t =
     get_or
-    (R.add ∷ R.subtract ∷ R.equal ∷ R.unequal ∷ R.less ∷ R.less_equal ∷ R.greater ∷ R.greater_equal ∷ R.multiply ∷ R.and ∷ R.or ∷ R.divide
-    ∷ R.remainder ∷ [])
-    (code t - code G.'+') R.unknown
+    (Add ∷ Subtract ∷ Equal ∷ Unequal ∷ Less ∷ LessEqual ∷ Greater ∷ GreaterEqual ∷ Multiply ∷ And ∷ Or ∷ Divide
+    ∷ Remainder ∷ [])
+    (code t - code G.'+') Unknown
 
 abbrev one : Op → Tree → Tree
 one op a = node op a none 0 0
 
 -- where a truth is wanted, a number gets op 19 and a path op 20
 unfoldable pub as_truth : Sort → Tree → Tree
-as_truth Numeral t = one R.truth t
+as_truth Numeral t = one TruthOf t
 as_truth Truth t = t
-as_truth Nodes t = one R.exists t
+as_truth Nodes t = one Exists t
 as_truth Unheld t = t
 
 -- a path that is a whole predicate gets op 20 too
 unfoldable pub as_predicate : Sort → Tree → Tree
 as_predicate Numeral t = t
 as_predicate Truth t = t
-as_predicate Nodes t = one R.exists t
+as_predicate Nodes t = one Exists t
 as_predicate Unheld t = t
 
 -- a call over the tree of its argument; boolean() of a truth adds no row
 unfoldable pub called : Function → Sort → Tree → Tree
-called position_function u t = one R.position none
-called last_function u t = one R.last none
-called count_function u t = one R.count t
-called not_function u t = one R.negation (as_truth u t)
+called position_function u t = one Position none
+called last_function u t = one Last none
+called count_function u t = one Count t
+called not_function u t = one Negation (as_truth u t)
 called boolean_function u t = as_truth u t
 called other_function u t = none
 
@@ -90,7 +91,7 @@ operand_of t u x = cond (leb (tightness t) 2) (as_truth u x) x
 
 -- `//` is short for /descendant-or-self::node()/: one more step
 unfoldable pub descended : Token → Tree → Tree
-descended t before = cond (eqb (code t) (code G.'//')) (node R.step before none 5 0) before
+descended t before = cond (eqb (code t) (code G.'//')) (node Step before none 5 0) before
 
 -- a step's axis: child where none is written, attribute for `@`
 unfoldable pub axis_of : Source → Syntax → ℕ
@@ -115,31 +116,31 @@ test_of s (part k t i a b c) = cond (is_kind k named) (name_number s i) (cond (i
 unfoldable pub held : Source → List Float → Tree → Syntax → Tree
 held s l before blank = before
 held s l before (part word t i a b c) = none
-held s l before (part number t i a b c) = node R.literal none none (index_of l (value_at s.text (place s i))) 0
+held s l before (part number t i a b c) = node Literal none none (index_of l (value_at s.text (place s i))) 0
 held s l before (part string t i a b c) = none
 held s l before (part variable t i a b c) = none
 held s l before (part group t i a b c) = held s l none c
 held s l before (part call t i a b c) = called (function_of (word_of s i)) (sort s c) (held s l none c)
 held s l before (part arguments t i a b c) = held s l none c
-held s l before (part negative t i a b c) = one R.negate (held s l none c)
+held s l before (part negative t i a b c) = one Negate (held s l none c)
 held s l before (part binary t i a b c) =
     node (operation t) (operand_of t (sort s a) (held s l none a)) (operand_of t (sort s c) (held s l none c)) 0 0
 held s l before (part union t i a b c) = none
 held s l before (part filter t i a b c) = none
 held s l before (part onward t i a b c) = none
-held s l before (part relative t i a b c) = one R.relative (held s l none c)
-held s l before (part absolute t i a b c) = one R.absolute (held s l (descended t none) c)
+held s l before (part relative t i a b c) = one Relative (held s l none c)
+held s l before (part absolute t i a b c) = one Absolute (held s l (descended t none) c)
 held s l before (part chain t i a b c) = held s l (descended t (held s l before a)) c
-held s l before (part step t i a b c) = node R.step before (held s l none c) (axis_of s a) (test_of s b)
-held s l before (part self t i a b c) = node R.step before none 0 0
-held s l before (part parent t i a b c) = node R.step before none 2 0
+held s l before (part step t i a b c) = node Step before (held s l none c) (axis_of s a) (test_of s b)
+held s l before (part self t i a b c) = node Step before none 0 0
+held s l before (part parent t i a b c) = node Step before none 2 0
 held s l before (part axis t i a b c) = none
 held s l before (part attribute t i a b c) = none
 held s l before (part named t i a b c) = none
 held s l before (part typed t i a b c) = none
 held s l before (part instruction t i a b c) = none
 held s l before (part target t i a b c) = none
-held s l before (part predicates t i a b c) = held s l (node R.predicate before (as_predicate (sort s a) (held s l none a)) 0 0) c
+held s l before (part predicates t i a b c) = held s l (node Predicate before (as_predicate (sort s a) (held s l none a)) 0 0) c
 
 unfoldable pub tree_of : Source → Syntax → Tree
 tree_of s e = held s (literals_of s e) none e

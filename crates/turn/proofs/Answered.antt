@@ -11,7 +11,7 @@ use lib.Ieee.{Float}
 use native.Mathlib.Omega.{arith}
 use borrow.Author.Tests.{ltb-false, lt-ltb, le-ltb, eq-eqb, ne_eqb}
 use Rattle.meaning.specs.Rows.{op_of, op_at, field, code, is_literal, fields_of, is_link, first_link, second_link, rows_of, most_path_rows}
-use Rattle.meaning.specs.Rows as R
+use Rattle.meaning.specs.declared.Op.TheVariants.{Relative}
 use Rattle.meaning.specs.Tree.{none, node, tree, index_or_axis, test_at}
 use Rattle.meaning.specs.Meaning.{is_absolute}
 use Rattle.meaning.specs.Turning.{first_step, is_counting, is_of_attributes, turned, weight, link, row, written}
@@ -42,7 +42,7 @@ module _ (p : List ℕ) (n last : ℕ) (is-n : n ≡ rows_of p) (is_last : last 
   nothing_second = rw k.relative
 
   -- a relative path's rows are its steps' and its own
-  top : path_tree p ≡ node R.relative (tree p last) none (index_or_axis p (rows_of p - 1)) (test_at p (rows_of p - 1))
+  top : path_tree p ≡ node Relative (tree p last) none (index_or_axis p (rows_of p - 1)) (test_at p (rows_of p - 1))
   top = tree_row p (rows_of p) (λ z. omega (arith, k.there)) ∙ rw (k.relative, ← chain_link, nothing_second, tree_zero p)
 
   chain_weight : weight (tree p last) + 1 ≡ rows_of p

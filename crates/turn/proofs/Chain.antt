@@ -10,7 +10,7 @@ use lib.ListN.{length, length-append}
 use lib.Seq.{sets, length-sets}
 use native.Mathlib.Omega.{arith}
 use Rattle.meaning.specs.Rows.{code, is_literal, first_link}
-use Rattle.meaning.specs.Rows as R
+use Rattle.meaning.specs.declared.Op.TheVariants.{Step}
 use Rattle.meaning.specs.Tree.{Tree, none, node, tree, index_or_axis}
 use Rattle.meaning.specs.Turning.{inverse_of, predicates, test, back, weight, link, row, written}
 use Rattle.meaning.proofs.Trees.{tree_zero, tree_row}
@@ -21,7 +21,7 @@ use Rattle.turn.specs.Parts.{Room, step_rows, chain}
 
 -- a step behind the steps that are done
 abbrev further : Tree → Tree → ℕ → Tree
-further done s axis = node R.step done (predicates s) axis (test s)
+further done s axis = node Step done (predicates s) axis (test s)
 
 -- its rows stand behind theirs
 written_further : (done s : Tree) (axis at : ℕ) → at ≡ weight done → written 0 (further done s axis) ≡ written 0 done ++ step_rows at s axis

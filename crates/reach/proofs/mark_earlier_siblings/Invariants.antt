@@ -7,7 +7,7 @@ use mathlib.Core.Bool.{true, false}
 use lib.ListN.{length, get_or}
 use Rattle.meaning.specs.Table.{rows, most_rows}
 use Rattle.meaning.specs.Axis.{on}
-use Rattle.meaning.specs.Axis as A
+use Rattle.meaning.specs.declared.Axis.TheVariants.{PrecedingSibling}
 use Rattle.meaning.proofs.Windows.{up_from}
 use Rattle.meaning.proofs.Marks.{WroteDown}
 use Rattle.reach.specs.Reach.{hit, admitted}
@@ -20,7 +20,7 @@ invariant-loop-i l =
     × (length l.marks ≡ length l.initial.marks)
     × (length l.seen ≡ most_rows)
     × Gathered (rows l.table) (over l.table) (giving l.initial.marks (admitted l.table true false)) (up_from l.i (rows l.table - l.i)) (λ q. get_or l.seen q false)
-    × WroteDown (hit l.table (on l.table A.preceding_sibling) l.initial.marks) (rows l.table) l.initial.marks l.marks l.i
+    × WroteDown (hit l.table (on l.table PrecedingSibling) l.initial.marks) (rows l.table) l.initial.marks l.marks l.i
 
 abbrev pub decreases-loop-i : goal.decreases-loop-i
 decreases-loop-i l = l.i

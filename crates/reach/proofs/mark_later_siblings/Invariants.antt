@@ -8,7 +8,7 @@ use lib.ListN.{length, get_or}
 use Rattle.meaning.specs.Lists.{up_to}
 use Rattle.meaning.specs.Table.{rows, most_rows}
 use Rattle.meaning.specs.Axis.{on}
-use Rattle.meaning.specs.Axis as A
+use Rattle.meaning.specs.declared.Axis.TheVariants.{FollowingSibling}
 use Rattle.meaning.proofs.Marks.{Wrote}
 use Rattle.reach.specs.Reach.{hit, admitted}
 use Rattle.reach.proofs.Sweep.{Gathered, giving, over}
@@ -21,7 +21,7 @@ invariant-loop-i l =
     × (length l.marks ≡ length l.initial.marks)
     × (length l.seen ≡ most_rows)
     × Gathered (rows l.table) (over l.table) (giving l.initial.marks (admitted l.table true false)) (up_to l.i) (λ q. get_or l.seen q false)
-    × Wrote (hit l.table (on l.table A.following_sibling) l.initial.marks) l.initial.marks l.marks l.i
+    × Wrote (hit l.table (on l.table FollowingSibling) l.initial.marks) l.initial.marks l.marks l.i
 
 abbrev pub decreases-loop-i : goal.decreases-loop-i
 decreases-loop-i l = l.n - l.i

@@ -11,7 +11,9 @@ use lib.Dec.{T}
 use lib.ListN.{get_or}
 use lib.Ieee.{Float}
 use borrow.Author.Tests.{eqb-true}
-use Rattle.meaning.specs.Rows.{Op, code, is_literal}
+use Rattle.meaning.specs.Rows.{code, is_literal}
+use Rattle.meaning.specs.declared.Op.{Op}
+use Rattle.meaning.specs.declared.Op.TheVariants.{Absolute, Count, Last, Literal, Negation, Position, Predicate, Relative, Step}
 use Rattle.meaning.specs.Rows as R
 use Rattle.meaning.specs.Tree.{Tree, none, node, depth}
 use Rattle.meaning.specs.Turning.{weight, link, written}
@@ -72,7 +74,7 @@ module _ (s : Source) (L : List Float) where
   unfolding held sort values faults own
   location g g' i x w l deep f fs p (due b lo op dp) c =
       path_whole is_relative l deep f fs p none x (part relative unknown i blank blank x) g' refl refl refl
-      (w l (begun deep f fs) (path_frame R.relative p ∷ f ∷ fs) p none (relative_walking l deep f fs p b)
+      (w l (begun deep f fs) (path_frame Relative p ∷ f ∷ fs) p none (relative_walking l deep f fs p b)
       (clean_inner s L relative refl unknown i x l c))
 
   alone : (g : Draft) (i : ℕ) → Expression s L 9 9 g (compose_token s g i '/') (part absolute '/' i blank blank blank)
@@ -86,7 +88,7 @@ module _ (s : Source) (L : List Float) where
         ready = ready_root;
         settles =
             same_draft M.part 1 refl (ap (λ (n : ℕ). max deep (paths_in (f ∷ fs) + n)) (sym (path_depth is_absolute_lem none)))
-            (fills 9 (path_frame R.absolute p) (f ∷ fs) (emptied p) (path_fills is_absolute_lem p) ∙ ap (settle 9 (f ∷ fs)) (root_row p));
+            (fills 9 (path_frame Absolute p) (f ∷ fs) (emptied p) (path_fills is_absolute_lem p) ∙ ap (settle 9 (f ∷ fs)) (root_row p));
       })
 
   -- steps behind `/` or `//` at the beginning
@@ -96,16 +98,16 @@ module _ (s : Source) (L : List Float) where
       → ((p : Pen) → q p ≡ after before Unheld p)
       → ((m : Mode) (l : List Float) (deep : ℕ) (f : Frame) (fs : List Frame) (p : Pen) (i : ℕ) → Beginning m
       → compose_token s (draft m 1 l deep (desk (f ∷ fs) p)) i t
-      ≡ draft mode 1 l (begun deep f fs) (desk (path_frame R.absolute p ∷ f ∷ fs) (q p)))
+      ≡ draft mode 1 l (begun deep f fs) (desk (path_frame Absolute p ∷ f ∷ fs) (q p)))
       → (g g' : Draft) (i : ℕ) (x : Syntax) → Walk s L 10 (compose_token s g i t) g' x
       → Expression s L 9 9 g g' (part absolute t i blank blank x)
   unfolding held sort values faults own path_from
   from_root t mode before q st inner shallow e is-after begins-so g g' i x w l deep f fs p (due b lo op dp) c =
       path_whole is_absolute_lem l deep f fs p before x (part absolute t i blank blank x) g' refl (rw e) refl
-      (w l (begun deep f fs) (path_frame R.absolute p ∷ f ∷ fs) p before
-      (subst⁻¹ (Walking l (begun deep f fs) (path_frame R.absolute p ∷ f ∷ fs) p before) (begins-so _ l deep f fs p i b)
+      (w l (begun deep f fs) (path_frame Absolute p ∷ f ∷ fs) p before
+      (subst⁻¹ (Walking l (begun deep f fs) (path_frame Absolute p ∷ f ∷ fs) p before) (begins-so _ l deep f fs p i b)
       (path_walking is_absolute_lem l deep f fs p (q p) before
-      (draft mode 1 l (begun deep f fs) (desk (path_frame R.absolute p ∷ f ∷ fs) (q p))) st (rw inner) (is-after p) shallow))
+      (draft mode 1 l (begun deep f fs) (desk (path_frame Absolute p ∷ f ∷ fs) (q p))) st (rw inner) (is-after p) shallow))
       (clean_inner s L absolute refl t i x l c))
 
   -- ---- steps
@@ -156,14 +158,14 @@ module _ (s : Source) (L : List Float) where
   -- `.` and `..`
   point :
       (k : Kind) (t : Token) (n : ℕ)
-      → ((before : Tree) (i : ℕ) → held s L before (part k t i blank blank blank) ≡ node R.step before none n 0)
+      → ((before : Tree) (i : ℕ) → held s L before (part k t i blank blank blank) ≡ node Step before none n 0)
       → is_kind k number ≡ false → ((g : Draft) (i : ℕ) → Stepping (mode_in g) → compose_token s g i t ≡ point_read whole n (path_from 22 g))
       → (g : Draft) (i : ℕ) → Walk s L 11 g (compose_token s g i t) (part k t i blank blank blank)
   unfolding values distinct
   point k t n holds plain h-reads g i l deep fs p before b c =
-      let stepped : compose_token s g i t ≡ behind whole 1 l deep fs p (node R.step before none n 0) =
+      let stepped : compose_token s g i t ≡ behind whole 1 l deep fs p (node Step before none n 0) =
       h-reads g i b.stepping ∙ pointed whole (mode_in g) n l deep fs p before (path_from 22 g) b.is in
-      let v = walked whole l deep fs p (node R.step before none n 0) (compose_token s g i t) had_whole b.below stepped in
+      let v = walked whole l deep fs p (node Step before none n 0) (compose_token s g i t) had_whole b.below stepped in
       record { had = v.0; settles = v.1 ∙ rw (plain, holds before i) }
 
   -- a step behind `/` or `//`, whose effect on the draft is this
@@ -249,7 +251,7 @@ module _ (s : Source) (L : List Float) where
       → Filtered s L g g2 (part predicates unknown i x blank y)
   unfolding held
   more g g1 g2 i x y wx wy l deep fs p before e enough c =
-      let now : Tree = node R.predicate before (as_predicate (sort s x) (held s L none x)) 0 0 in
+      let now : Tree = node Predicate before (as_predicate (sort s x) (held s L none x)) 0 0 in
       wy (distinct l (values s x)) deep fs p now
       (wx l (deeper deep fs before) fs (after before Unheld p) e (omega arith) (clean_first s L predicates refl unknown i x y l c)
       ∙ predicate_behind (distinct l (values s x)) deep fs p before (held s L none x) (sort s x)) enough
@@ -296,7 +298,7 @@ module _ (s : Source) (L : List Float) where
             settles =
                 r.1
                 ∙ ap (λ (vs : List Float). behind M.part 1 (distinct l vs) deep fs p
-                (node R.step before (held s L none x) (axis_of s a) (test_of s t))) (sym same_values);
+                (node Step before (held s L none x) (axis_of s a) (test_of s t))) (sym same_values);
           }
 
   -- ---- primary expressions
@@ -323,10 +325,10 @@ module _ (s : Source) (L : List Float) where
         kept = same;
         is =
             number_read_lem s _ l deep f fs p i b
-            ∙ same_draft M.part 1 refl (shallow_in deep (f ∷ fs) (node R.literal none none (index_of L v) 0) dp refl)
+            ∙ same_draft M.part 1 refl (shallow_in deep (f ∷ fs) (node Literal none none (index_of L v) 0) dp refl)
             (ap (desk (f ∷ fs))
             (puts_literal (index_of l v) Numeral p
-            ∙ ap (λ (n : ℕ). after (node R.literal none none n 0) Numeral p)
+            ∙ ap (λ (n : ℕ). after (node Literal none none n 0) Numeral p)
             (index_settled l L v (value_equal s i (own_none s number Number i blank blank blank c.faultless)) c.within)));
       }
 
@@ -378,12 +380,12 @@ module _ (s : Source) (L : List Float) where
   empty_by zero m l deep f fs p u t e = record {
     shallow = refl;
     known = refl;
-    is = ap (λ (q : Pen). draft M.part 1 l deep (desk (f ∷ fs) q)) (puts_none R.position 0 0 Numeral p refl);
+    is = ap (λ (q : Pen). draft M.part 1 l deep (desk (f ∷ fs) q)) (puts_none Position 0 0 Numeral p refl);
   }
   empty_by (suc zero) m l deep f fs p u t e = record {
     shallow = refl;
     known = refl;
-    is = ap (λ (q : Pen). draft M.part 1 l deep (desk (f ∷ fs) q)) (puts_none R.last 0 0 Numeral p refl);
+    is = ap (λ (q : Pen). draft M.part 1 l deep (desk (f ∷ fs) q)) (puts_none Last 0 0 Numeral p refl);
   }
   empty_by (suc (suc zero)) m l deep f fs p u t e = absurd (subst T (sym e) tt)
   empty_by (suc (suc (suc zero))) m l deep f fs p u t e = absurd (subst T (sym e) tt)
@@ -461,8 +463,8 @@ module _ (s : Source) (L : List Float) where
     top = f;
     kept = same;
     is =
-        argument_in 21 (over 21 Numeral) (node R.count (held s L none x) none 0 0) Numeral l deep f fs p x g1 j refl refl (λ a m q. refl)
-        (puts_one R.count (held s L none x) 0 0 (sort s x) Numeral (emptied p) refl) (omega arith) dp c (w (eqb-true (arity x) 1 e));
+        argument_in 21 (over 21 Numeral) (node Count (held s L none x) none 0 0) Numeral l deep f fs p x g1 j refl refl (λ a m q. refl)
+        (puts_one Count (held s L none x) 0 0 (sort s x) Numeral (emptied p) refl) (omega arith) dp c (w (eqb-true (arity x) 1 e));
   }
   full_by (suc (suc (suc zero))) m l deep f fs p x g1 j e some op dp c w =
       let t : Tree = as_truth (sort s x) (held s L none x) in record {
@@ -470,9 +472,9 @@ module _ (s : Source) (L : List Float) where
         top = f;
         kept = same;
         is =
-            argument_in 18 (λ q. over 18 Truth (truthful q)) (node R.negation t none 0 0) Truth l deep f fs p x g1 j refl refl (λ a m q. refl)
+            argument_in 18 (λ q. over 18 Truth (truthful q)) (node Negation t none 0 0) Truth l deep f fs p x g1 j refl refl (λ a m q. refl)
             (ap (over 18 Truth) (truthful_after (held s L none x) (sort s x) (emptied p))
-            ∙ puts_one R.negation t 0 0 (true_sort (sort s x)) Truth (emptied p) refl)
+            ∙ puts_one Negation t 0 0 (true_sort (sort s x)) Truth (emptied p) refl)
             (rw (truth_depth (sort s x) (held s L none x)) (omega arith)) dp c (w (eqb-true (arity x) 1 e));
       }
   full_by (suc (suc (suc (suc zero)))) m l deep (frame op a c d o t) fs p x g1 j e some h dp cl w =
@@ -571,7 +573,7 @@ module _ (s : Source) (L : List Float) where
   every Predicate = (λ g i u. (tt, (λ g1 j x w. bracketed g g1 i j x w))) also tt
   every PredicateExpr = passing (Expression s L 1 1) also tt
   every AbbreviatedAbsoluteLocationPath =
-      (λ g i u. (tt, (λ g' j x w. from_root '//' M.step (node R.step none none 5 0) below_pen step_step refl refl refl below_row (begins_below s) g g' i x w)))
+      (λ g i u. (tt, (λ g' j x w. from_root '//' M.step (node Step none none 5 0) below_pen step_step refl refl refl below_row (begins_below s) g g' i x w)))
       also tt
   every AbbreviatedRelativeLocationPath =
       (λ g i u. (tt, (λ g1 j x wx. (tt, (λ g2 n y wy. next_step '//' (point_read M.step 5) (slashes_read s) slashes_move g g1 g2 i j x y wx wy)))))

@@ -10,7 +10,9 @@ use native.Mathlib.Nat.{zero-add}
 use lib.Dec.{T, eqb, leb}
 use lib.Ieee.{Float}
 use borrow.Author.Tests.{lt-ltb, ne_eqb, eq-eqb}
-use Rattle.meaning.specs.Rows.{Op, code, is_literal}
+use Rattle.meaning.specs.Rows.{code, is_literal}
+use Rattle.meaning.specs.declared.Op.{Op}
+use Rattle.meaning.specs.declared.Op.TheVariants.{Absolute, Predicate, Relative, Step}
 use Rattle.meaning.specs.Rows as R
 use Rattle.meaning.specs.Tree.{Tree, none, node, depth}
 use Rattle.text.specs.declared.Sort.{Sort}
@@ -143,18 +145,18 @@ walked m l deep fs p t g h b e =
 pub pointed :
     (m o : Mode) (n : ℕ) (l : List Float) (deep : ℕ) (fs : List Frame) (p : Pen) (before : Tree) (g : Draft)
     → g ≡ behind o 1 l deep fs p before
-    → point_read m n g ≡ behind m 1 l deep fs p (node R.step before none n 0)
+    → point_read m n g ≡ behind m 1 l deep fs p (node Step before none n 0)
 unfolding point_read depth R.is_path code is_literal
 pointed m o n l deep fs p before g e =
     ap (point_read m n) e
-    ∙ same_draft m 1 refl (omega arith) (ap (desk fs) (puts_one R.step before n 0 Unheld Unheld p refl))
+    ∙ same_draft m 1 refl (omega arith) (ap (desk fs) (puts_one Step before n 0 Unheld Unheld p refl))
 
 -- ---- paths
 
 -- the ops of paths, and the frame of one
 pub data PathOp : Op → Type 0 where
-  is_relative : PathOp R.relative
-  is_absolute_lem : PathOp R.absolute
+  is_relative : PathOp Relative
+  is_absolute_lem : PathOp Absolute
 
 abbrev pub path_frame : Op → Pen → Frame
 path_frame op p = frame (code op) (link_of p) 0 0 0 0
@@ -180,8 +182,8 @@ path_fills is_absolute_lem p = refl
 
 path_row : {op : Op} → PathOp op → (p : Pen) (t : Tree) → row_of (path_frame op p) (after t Unheld p) ≡ after (node op t none 0 0) Nodes p
 unfolding code row_of is_literal
-path_row is_relative p t = puts_one R.relative t 0 0 Unheld Nodes p refl
-path_row is_absolute_lem p t = puts_one R.absolute t 0 0 Unheld Nodes p refl
+path_row is_relative p t = puts_one Relative t 0 0 Unheld Nodes p refl
+path_row is_absolute_lem p t = puts_one Absolute t 0 0 Unheld Nodes p refl
 
 pub path_depth : {op : Op} → PathOp op → (t : Tree) → depth (node op t none 0 0) ≡ depth t + 1
 unfolding depth R.is_path code
@@ -218,7 +220,7 @@ path_walking {op} o l deep f fs p q before g st e b d =
 -- a path begins with its first step
 pub relative_walking :
     {m : Mode} (l : List Float) (deep : ℕ) (f : Frame) (fs : List Frame) (p : Pen) → Beginning m
-    → Walking l (begun deep f fs) (path_frame R.relative p ∷ f ∷ fs) p none (draft m 1 l deep (desk (f ∷ fs) p))
+    → Walking l (begun deep f fs) (path_frame Relative p ∷ f ∷ fs) p none (draft m 1 l deep (desk (f ∷ fs) p))
 unfolding path_from paths_on push has M.number code depth
 relative_walking l deep f fs p at_operand =
     path_walking is_relative l deep f fs p (emptied p) none (draft operand 1 l deep (desk (f ∷ fs) p)) step_operand refl
@@ -228,16 +230,16 @@ relative_walking l deep f fs p at_argument =
     (sym (after_none p)) refl
 
 -- the row of `/` alone, and of the step of a `//` that begins a path
-pub root_row : (p : Pen) → row_of (path_frame R.absolute p) (emptied p) ≡ after (node R.absolute none none 0 0) Nodes p
+pub root_row : (p : Pen) → row_of (path_frame Absolute p) (emptied p) ≡ after (node Absolute none none 0 0) Nodes p
 unfolding row_of code is_literal put
-root_row (pen l u n out) = puts_none R.absolute 0 0 Nodes (pen l u n out) refl
+root_row (pen l u n out) = puts_none Absolute 0 0 Nodes (pen l u n out) refl
 
 abbrev pub below_pen : Pen → Pen
 below_pen p = put 24 (link_of (emptied p)) 0 5 0 Unheld (emptied p)
 
-pub below_row : (p : Pen) → below_pen p ≡ after (node R.step none none 5 0) Unheld p
+pub below_row : (p : Pen) → below_pen p ≡ after (node Step none none 5 0) Unheld p
 unfolding code is_literal put
-below_row (pen l u n out) = puts_none R.step 5 0 Unheld (pen l u n out) refl
+below_row (pen l u n out) = puts_none Step 5 0 Unheld (pen l u n out) refl
 
 -- ---- steps
 
@@ -302,17 +304,17 @@ step_begun n test l deep fs p before enough =
 pub step_ends :
     (n test : ℕ) (l : List Float) (deep : ℕ) (fs : List Frame) (p : Pen) (before t : Tree) (g : Draft) → Below fs
     → g ≡ behind M.part 1 l (deeper deep fs before) (step_frame (after before Unheld p) n test ∷ fs) (after before Unheld p) t
-    → Had (mode_in g) × (rest 11 g ≡ behind M.part 1 l deep fs p (node R.step before t n test))
+    → Had (mode_in g) × (rest 11 g ≡ behind M.part 1 l deep fs p (node Step before t n test))
 unfolding rest settled depth R.is_path code is_literal row_of may_fill strength_of
 step_ends n test l deep fs p before t g b e =
     let q : Pen = after before Unheld p in
     let c : paths_in (step_frame q n test ∷ fs) ≡ paths_in fs = no_path 24 (link_of q) n test 0 0 fs refl in
-    subst⁻¹ (λ (o : Draft). Had (mode_in o) × (rest 11 o ≡ behind M.part 1 l deep fs p (node R.step before t n test))) e (
+    subst⁻¹ (λ (o : Draft). Had (mode_in o) × (rest 11 o ≡ behind M.part 1 l deep fs p (node Step before t n test))) e (
       had_part,
       same_draft M.part 1 refl (rw c (omega arith))
           (fills 11 (step_frame q n test) fs (after t Unheld q) refl
-          ∙ (ap (settle 11 fs) (puts R.step before t n test Unheld Unheld Unheld p refl)
-          ∙ stays_below 11 tt fs (after (node R.step before t n test) Unheld p) b)),
+          ∙ (ap (settle 11 fs) (puts Step before t n test Unheld Unheld Unheld p refl)
+          ∙ stays_below 11 tt fs (after (node Step before t n test) Unheld p) b)),
     )
 
 -- ---- brackets
@@ -329,13 +331,13 @@ squared p q = put 25 (link_of p) (link_of (predicable q)) 0 0 Unheld (predicable
 pub predicate_behind :
     (l : List Float) (deep : ℕ) (fs : List Frame) (p : Pen) (before t : Tree) (u : Sort)
     → draft M.part 1 l (deeper (deeper deep fs before) fs t) (desk fs (squared (after before Unheld p) (after t u (after before Unheld p))))
-    ≡ behind M.part 1 l deep fs p (node R.predicate before (as_predicate u t) 0 0)
+    ≡ behind M.part 1 l deep fs p (node Predicate before (as_predicate u t) 0 0)
 unfolding depth R.is_path code is_literal
 predicate_behind l deep fs p before t u =
     same_draft M.part 1 refl (rw (predicate_depth u t) (omega arith))
     (ap (desk fs)
     (ap (λ (q : Pen). put 25 (link_of (after before Unheld p)) (link_of q) 0 0 Unheld q) (predicable_after t u (after before Unheld p))
-    ∙ puts R.predicate before (as_predicate u t) 0 0 Unheld (predicate_sort u) Unheld p refl))
+    ∙ puts Predicate before (as_predicate u t) 0 0 Unheld (predicate_sort u) Unheld p refl))
 
 -- a tree without paths is not deep
 pub shallow_in : (deep : ℕ) (fs : List Frame) (t : Tree) → paths_in fs ≤ deep → depth t ≡ 0 → deep ≡ deeper deep fs t

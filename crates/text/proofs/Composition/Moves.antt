@@ -8,7 +8,7 @@ use native.Mathlib.Nat.{le_refl}
 use lib.Dec.{leb}
 use lib.Ieee.{Float}
 use Rattle.meaning.specs.Rows.{code}
-use Rattle.meaning.specs.Rows as R
+use Rattle.meaning.specs.declared.Op.TheVariants.{Absolute}
 use Rattle.names.specs.Names.{position}
 use Rattle.text.specs.declared.Sort.TheVariants.{Numeral}
 use Rattle.text.specs.Grammar.{Token, opening, closing, '[', ']', dot, dots, at, '::', NameTest, NodeType, 'processing_instruction', FunctionName, AxisName, Literal, Number, '/', '//', '-'}
@@ -76,7 +76,7 @@ module _ (s : Source) where
   pub begins_root :
       (m : Mode) (l : List Float) (deep : ℕ) (f : Frame) (fs : List Frame) (p : Pen) (i : ℕ) → Beginning m
       → compose_token s (draft m 1 l deep (desk (f ∷ fs) p)) i '/'
-      ≡ draft root 1 l (begun deep f fs) (desk (path_frame R.absolute p ∷ f ∷ fs) (emptied p))
+      ≡ draft root 1 l (begun deep f fs) (desk (path_frame Absolute p ∷ f ∷ fs) (emptied p))
   unfolding compose_token moved step_ended path_from paths_on push has M.number code Survey.after pick rows
   begins_root m l deep f fs p i at_operand = refl
   begins_root m l deep f fs p i at_argument = refl
@@ -84,7 +84,7 @@ module _ (s : Source) where
   pub begins_below :
       (m : Mode) (l : List Float) (deep : ℕ) (f : Frame) (fs : List Frame) (p : Pen) (i : ℕ) → Beginning m
       → compose_token s (draft m 1 l deep (desk (f ∷ fs) p)) i '//'
-      ≡ draft M.step 1 l (begun deep f fs) (desk (path_frame R.absolute p ∷ f ∷ fs) (below_pen p))
+      ≡ draft M.step 1 l (begun deep f fs) (desk (path_frame Absolute p ∷ f ∷ fs) (below_pen p))
   unfolding compose_token point_read step_ended path_from paths_on push has M.number code Survey.after pick rows
   begins_below m l deep f fs p i at_operand = refl
   begins_below m l deep f fs p i at_argument = refl

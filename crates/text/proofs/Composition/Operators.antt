@@ -10,6 +10,7 @@ use lib.Dec.{T, leb}
 use lib.Ieee.{Float}
 use borrow.Author.Tests.{le-leb}
 use Rattle.meaning.specs.Rows.{code, is_literal}
+use Rattle.meaning.specs.declared.Op.TheVariants.{Negate}
 use Rattle.meaning.specs.Rows as R
 use Rattle.meaning.specs.Tree.{Tree, none, node, depth}
 use Rattle.text.specs.declared.Sort.{Sort}
@@ -186,12 +187,12 @@ module _ (s : Source) (L : List Float) where
 
   negated :
       (x : Syntax) (p : Pen) (top : Frame) → Same (sort s x) (frame 9 (link_of p) 0 0 0 0) top
-      → row_of top (in_hand s L x (emptied p)) ≡ after (node R.negate (held s L none x) none 0 0) Numeral p
+      → row_of top (in_hand s L x (emptied p)) ≡ after (node Negate (held s L none x) none 0 0) Numeral p
   unfolding row_of is_literal code
   negated x p top kept =
       ap (λ (h : Frame). row_of h (in_hand s L x (emptied p))) (mark kept).1
-      ∙ (puts_one R.negate (held s L none x) 0 0 (sort s x) Numeral (emptied p) refl
-      ∙ after_emptied (node R.negate (held s L none x) none 0 0) Numeral p)
+      ∙ (puts_one Negate (held s L none x) 0 0 (sort s x) Numeral (emptied p) refl
+      ∙ after_emptied (node Negate (held s L none x) none 0 0) Numeral p)
 
   signed :
       (l : List Float) (deep : ℕ) (f : Frame) (fs : List Frame) (p : Pen) (x : Syntax) (i : ℕ) (g : Draft)

@@ -9,7 +9,9 @@ use native.Mathlib.Omega.{arith}
 use native.Mathlib.Nat.{add-zero}
 use lib.Dec.{T, eqb, leb}
 use lib.Ieee.{Float}
-use Rattle.meaning.specs.Rows.{Op, code, is_literal}
+use Rattle.meaning.specs.Rows.{code, is_literal}
+use Rattle.meaning.specs.declared.Op.{Op}
+use Rattle.meaning.specs.declared.Op.TheVariants.{Exists, Literal, TruthOf}
 use Rattle.meaning.specs.Rows as R
 use Rattle.meaning.specs.Tree.{Tree, none, node, depth}
 use Rattle.meaning.specs.Turning.{weight, link, row, written}
@@ -64,7 +66,7 @@ pub puts_none :
 unfolding after put link weight written
 puts_none op c d w (pen l x n out) e = rw plain_row
 
-pub puts_literal : (i : ℕ) (w : Sort) (p : Pen) → put 1 i 0 0 0 w p ≡ after (node R.literal none none i 0) w p
+pub puts_literal : (i : ℕ) (w : Sort) (p : Pen) → put 1 i 0 0 0 w p ≡ after (node Literal none none i 0) w p
 unfolding after put link weight written row is_literal code
 puts_literal i w (pen l x n out) = refl
 
@@ -79,9 +81,9 @@ true_sort Unheld = Unheld
 
 pub truthful_after : (t : Tree) (u : Sort) (p : Pen) → truthful (after t u p) ≡ after (as_truth u t) (true_sort u) p
 unfolding truthful as_truth after is_literal code
-truthful_after t Numeral (pen l v n out) = puts_one R.truth t 0 0 Numeral Truth (pen l v n out) refl
+truthful_after t Numeral (pen l v n out) = puts_one TruthOf t 0 0 Numeral Truth (pen l v n out) refl
 truthful_after t Truth (pen l v n out) = refl
-truthful_after t Nodes (pen l v n out) = puts_one R.exists t 0 0 Nodes Truth (pen l v n out) refl
+truthful_after t Nodes (pen l v n out) = puts_one Exists t 0 0 Nodes Truth (pen l v n out) refl
 truthful_after t Unheld (pen l v n out) = refl
 
 -- the same of a whole predicate
@@ -95,7 +97,7 @@ pub predicable_after : (t : Tree) (u : Sort) (p : Pen) → predicable (after t u
 unfolding predicable as_predicate after is_literal code
 predicable_after t Numeral (pen l v n out) = refl
 predicable_after t Truth (pen l v n out) = refl
-predicable_after t Nodes (pen l v n out) = puts_one R.exists t 0 0 Nodes Truth (pen l v n out) refl
+predicable_after t Nodes (pen l v n out) = puts_one Exists t 0 0 Nodes Truth (pen l v n out) refl
 predicable_after t Unheld (pen l v n out) = refl
 
 -- a truth is no deeper
