@@ -6,11 +6,10 @@ ghost use Rattle.std.specs.Prelude.{◌≡◌, ◌-◌, ◌<◌, get_or};
 ghost use Rattle.meaning.specs.Table.{rows, parent_of, end, is_attribute};
 ghost use Rattle.meaning.specs.Axis.{under, inside, after, on, axis_of, passes, test_of, is_reverse, ordered};
 ghost use Rattle.meaning.specs.declared.Axis.TheVariants.{Descendant, FollowingSibling};
-ghost use Rattle.meaning.specs.declared.Test.TheVariants.{Named};
-ghost use Rattle.meaning.proofs.Editions.{in_second};
+ghost use Rattle.axes.specs.Second.{in_second};
 
-use basics::{at_most, below, both, either, entry, same};
-use meaning::LAST_AXIS;
+use basics::entry;
+use meaning::{Axis, Test};
 use table::{kind_at, name_at};
 
 // The parent of any number, and the end of its subtree: of no row both read 0 for what is stored.
@@ -29,84 +28,96 @@ fn any_end(table: &[u32], i: usize) -> usize
 }
 
 // Is any number an attribute's?
+#[tactic(auto, unfolding(meaning::specs::Table::is_attribute))]
 fn any_attribute(table: &[u32], i: usize) -> bool
     requires { i < 4294967296 }
     ensures { result ≡ is_attribute table.now i }
 {
-    same(entry(table, 4 * i), 5)
+    entry(table, 4 * i) == 5
 }
 
 // Is x the parent of y? Row 0 has none.
+#[tactic(auto, unfolding(meaning::specs::Axis::under))]
 fn is_under(table: &[u32], x: usize, y: usize) -> bool
     requires { y < 4294967296 }
     ensures { result ≡ under table.now x y }
 {
-    both(below(0, y), same(any_parent(table, y), x))
+    0 < y && any_parent(table, y) == x
 }
 
 // Does y stand inside x?
+#[tactic(auto, unfolding(meaning::specs::Axis::inside))]
 fn is_inside(table: &[u32], x: usize, y: usize) -> bool
     requires { x < 4294967296 }
     ensures { result ≡ inside table.now x y }
 {
-    both(below(x, y), at_most(y, any_end(table, x)))
+    x < y && y <= any_end(table, x)
 }
 
 // Is y later than x and not inside it?
+#[tactic(auto, unfolding(meaning::specs::Axis::after))]
 fn is_after(table: &[u32], x: usize, y: usize) -> bool
     requires { x < 4294967296 }
     ensures { result ≡ after table.now x y }
 {
-    both(below(x, y), !is_inside(table, x, y))
+    x < y && !is_inside(table, x, y)
 }
 
 // Is y a later sibling of x? Row 0 has no siblings, and no attribute has.
+#[tactic(auto, unfolding(meaning::specs::Axis::on, meaning::specs::Table::sibling_before))]
 fn is_later_sibling(table: &[u32], x: usize, y: usize) -> bool
     requires { (x < 4294967296) × (y < 4294967296) }
     ensures { result ≡ on table.now FollowingSibling x y }
 {
-    let later = both(below(0, x), below(x, y));
-    let of_one = both(later, same(any_parent(table, x), any_parent(table, y)));
-    both(
-        both(of_one, !any_attribute(table, y)),
-        !any_attribute(table, x),
-    )
+    let later = 0 < x && x < y;
+    let of_one = later && any_parent(table, x) == any_parent(table, y);
+    of_one && !any_attribute(table, y) && !any_attribute(table, x)
 }
 
 // Is y a descendant of x? Attributes are none.
+#[tactic(auto, unfolding(meaning::specs::Axis::on))]
 fn is_descendant(table: &[u32], x: usize, y: usize) -> bool
     requires { (x < 4294967296) × (y < 4294967296) }
     ensures { result ≡ on table.now Descendant x y }
 {
-    both(is_inside(table, x, y), !any_attribute(table, y))
+    is_inside(table, x, y) && !any_attribute(table, y)
 }
 
-// Is y on the axis of x? A number above 11 reads as axis 0.
-pub fn holds(table: &[u32], axis: usize, x: usize, y: usize) -> bool
+// Is y on the axis of x?
+#[tactic(auto, unfolding(meaning::specs::Axis::on))]
+pub fn holds(table: &[u32], axis: Axis, x: usize, y: usize) -> bool
     requires { (x < 4294967296) × (y < 4294967296) }
-    ensures { result ≡ on table.now (axis_of axis) x y }
+    ensures { result ≡ on table.now axis x y }
 {
     match axis {
-        1 => both(is_under(table, x, y), !any_attribute(table, y)),
-        2 => is_under(table, y, x),
-        3 => is_descendant(table, x, y),
-        4 => is_inside(table, y, x),
-        5 => either(same(x, y), is_descendant(table, x, y)),
-        6 => either(same(x, y), is_inside(table, y, x)),
-        7 => both(is_after(table, x, y), !any_attribute(table, y)),
-        8 => both(is_after(table, y, x), !any_attribute(table, y)),
-        9 => is_later_sibling(table, x, y),
-        10 => is_later_sibling(table, y, x),
-        11 => both(is_under(table, x, y), any_attribute(table, y)),
-        _ => same(x, y),
+        Axis::Itself => x == y,
+        Axis::Child => is_under(table, x, y) && !any_attribute(table, y),
+        Axis::Parent => is_under(table, y, x),
+        Axis::Descendant => is_descendant(table, x, y),
+        Axis::Ancestor => is_inside(table, y, x),
+        Axis::DescendantOrSelf => x == y || is_descendant(table, x, y),
+        Axis::AncestorOrSelf => x == y || is_inside(table, y, x),
+        Axis::Following => is_after(table, x, y) && !any_attribute(table, y),
+        Axis::Preceding => is_after(table, y, x) && !any_attribute(table, y),
+        Axis::FollowingSibling => is_later_sibling(table, x, y),
+        Axis::PrecedingSibling => is_later_sibling(table, y, x),
+        Axis::Attribute => is_under(table, x, y) && any_attribute(table, y),
     }
 }
 
 // Does the axis run against document order?
-pub fn is_reverse(axis: usize) -> bool
-    ensures { result ≡ is_reverse (axis_of axis) }
+#[tactic(auto, unfolding(meaning::specs::Axis::is_reverse))]
+pub fn is_reverse(axis: Axis) -> bool
+    ensures { result ≡ is_reverse axis }
 {
-    both(same(axis % 2, 0), both(below(0, axis), at_most(axis, 10)))
+    matches!(
+        axis,
+        Axis::Parent
+            | Axis::Ancestor
+            | Axis::AncestorOrSelf
+            | Axis::Preceding
+            | Axis::PrecedingSibling
+    )
 }
 
 // The i-th of n rows in document order, or in reverse.
@@ -118,49 +129,36 @@ pub fn nth(reverse: bool, n: usize, i: usize) -> usize
 }
 
 // The kind that `*` and names match on the axis: attributes on the attribute axis, elements on all others.
-pub fn principal(axis: usize) -> usize
-    ensures { result ≡ Rattle.meaning.specs.Axis.principal (axis_of axis) }
+#[tactic(auto, unfolding(meaning::specs::Axis::principal))]
+pub fn principal(axis: Axis) -> usize
+    ensures { result ≡ Rattle.meaning.specs.Axis.principal axis }
 {
-    if axis == LAST_AXIS { 5 } else { 1 }
+    if axis == Axis::Attribute { 5 } else { 1 }
 }
 
 // The test that says in edition 2 what a test says in an edition: node() for the `*` of edition 1.
-pub fn in_second(edition: usize, test: usize) -> usize
+#[tactic(auto, unfolding(crate::specs::Second::in_second))]
+pub fn in_second(edition: usize, test: Test) -> Test
     ensures { result ≡ in_second edition test }
 {
-    let any_node = both(same(edition, 1), same(test, 1));
-    if any_node { 0 } else { test }
-}
-
-// Does node y pass the test with this number, where `*` and names match this kind?
-pub fn passes_test(table: &[u32], kind: usize, test: usize, y: usize) -> bool
-    requires { y < rows table.now }
-    ensures { result ≡ passes 2 table.now kind (test_of test) y }
-{
     match test {
-        0 => true,
-        1 => same(kind_at(table, y), kind),
-        2 => same(kind_at(table, y), 2),
-        3 => same(kind_at(table, y), 3),
-        4 => same(kind_at(table, y), 4),
-        _ => is_named(table, kind, test, y),
+        Test::Star if edition == 1 => Test::AnyNode,
+        _ => test,
     }
 }
 
-// Is node y of this kind, with the name that the test asks for?
-fn is_named(table: &[u32], kind: usize, test: usize, y: usize) -> bool
+// Does node y pass the test, where `*` and names match this kind?
+#[tactic(auto, unfolding(meaning::specs::Axis::passes, meaning::specs::Table::is_text))]
+pub fn passes_test(table: &[u32], kind: usize, test: Test, y: usize) -> bool
     requires { y < rows table.now }
-    ensures { result ≡ passes 2 table.now kind (Named (test - 16)) y }
+    ensures { result ≡ passes 2 table.now kind test y }
 {
-    both(
-        same(kind_at(table, y), kind),
-        same(name_at(table, y), less(test, 16)),
-    )
-}
-
-// The difference of two numbers, 0 where it would be below.
-fn less(a: usize, b: usize) -> usize
-    ensures { result ≡ a - b }
-{
-    if a < b { 0 } else { a - b }
+    match test {
+        Test::AnyNode => true,
+        Test::Star => kind_at(table, y) == kind,
+        Test::Text => kind_at(table, y) == 2,
+        Test::Comment => kind_at(table, y) == 3,
+        Test::Instruction => kind_at(table, y) == 4,
+        Test::Named(name) => kind_at(table, y) == kind && name_at(table, y) == name,
+    }
 }
