@@ -6,67 +6,73 @@ ghost use Rattle.std.specs.Prelude.{◌≡◌, ◌+◌, ◌<◌, ◌≤◌, min,
 ghost use Rattle.meaning.specs.Lists.{keep};
 ghost use Rattle.meaning.proofs.Ranges.{range, own_or_plain};
 ghost use Rattle.meaning.specs.Table.{rows, most_rows, end};
-ghost use Rattle.meaning.specs.Axis.{axis_of, test_of, passes, candidates};
+ghost use Rattle.meaning.specs.Axis.{on, passes, candidates};
 ghost use Rattle.meaning.specs.declared.Axis.TheVariants.{Descendant, DescendantOrSelf};
 
 use axes::{holds, in_second, is_reverse, nth, passes_test, principal};
-use basics::{both, either, same};
+use meaning::{Axis, Test};
 use table::{end_at, is_attribute, row_count};
 
 // Writes the candidates of an edition to the front of the list. What the functions below list are those of edition 2.
 pub fn list_candidates(
     edition: usize,
     table: &[u32],
-    axis: usize,
-    test: usize,
+    axis: Axis,
+    test: Test,
     x: usize,
     list: &mut [u16],
 ) -> usize
     requires { (rows table.now ≤ most_rows) × (x < 4294967296) × (rows table.now ≤ length list.old) }
-    ensures { (take result list.new ≡ candidates edition table.now (axis_of axis) (test_of test) x) × (result ≤ rows table.now) }
+    ensures { (take result list.new ≡ candidates edition table.now axis test x) × (result ≤ rows table.now) }
 {
     let read = in_second(edition, test);
     match axis {
-        3 => list_descendants(table, read, x, list),
-        5 => list_subtree(table, read, x, list),
+        Axis::Descendant => list_descendants(table, read, x, list),
+        Axis::DescendantOrSelf => list_subtree(table, read, x, list),
         _ => list_by_scan(table, axis, read, x, list),
     }
 }
 
+// Is y on the axis of x, and does it pass the test, where `*` and names match this kind?
+fn is_candidate(table: &[u32], axis: Axis, kind: usize, test: Test, x: usize, y: usize) -> bool
+    requires { (x < 4294967296) × (y < rows table.now) × (rows table.now ≤ most_rows) }
+    ensures { result ≡ (on table.now axis x y && passes 2 table.now kind test y) }
+{
+    holds(table, axis, x, y) && passes_test(table, kind, test, y)
+}
+
 // Those of any axis: each row is asked, in the order of the axis.
-fn list_by_scan(table: &[u32], axis: usize, test: usize, x: usize, list: &mut [u16]) -> usize
+fn list_by_scan(table: &[u32], axis: Axis, test: Test, x: usize, list: &mut [u16]) -> usize
     requires { (rows table.now ≤ most_rows) × (x < 4294967296) × (rows table.now ≤ length list.old) }
-    ensures { (take result list.new ≡ candidates 2 table.now (axis_of axis) (test_of test) x) × (result ≤ rows table.now) }
+    ensures { (take result list.new ≡ candidates 2 table.now axis test x) × (result ≤ rows table.now) }
 {
     let n = row_count(table);
     let reverse = is_reverse(axis);
     let kind = principal(axis);
     let mut m = 0;
-    let mut i = 0;
-    while i < n {
+    for i in 0..n {
         let y = nth(reverse, n, i);
-        if both(holds(table, axis, x, y), passes_test(table, kind, test, y)) {
+        if is_candidate(table, axis, kind, test, x, y) {
             list[m] = y as u16;
             m += 1;
         }
-        i += 1;
     }
     m
 }
 
 // Those of the descendant axis: the rows after x in its subtree.
-fn list_descendants(table: &[u32], test: usize, x: usize, list: &mut [u16]) -> usize
+fn list_descendants(table: &[u32], test: Test, x: usize, list: &mut [u16]) -> usize
     requires { (rows table.now ≤ most_rows) × (x < 4294967296) × (rows table.now ≤ length list.old) }
-    ensures { (take result list.new ≡ candidates 2 table.now Descendant (test_of test) x) × (result ≤ rows table.now) }
+    ensures { (take result list.new ≡ candidates 2 table.now Descendant test x) × (result ≤ rows table.now) }
 {
     let past = past_subtree(table, x);
     list_range(table, x, test, x + 1, past, list)
 }
 
 // Those of the descendant-or-self axis: the same, and x before them.
-fn list_subtree(table: &[u32], test: usize, x: usize, list: &mut [u16]) -> usize
+fn list_subtree(table: &[u32], test: Test, x: usize, list: &mut [u16]) -> usize
     requires { (rows table.now ≤ most_rows) × (x < 4294967296) × (rows table.now ≤ length list.old) }
-    ensures { (take result list.new ≡ candidates 2 table.now DescendantOrSelf (test_of test) x) × (result ≤ rows table.now) }
+    ensures { (take result list.new ≡ candidates 2 table.now DescendantOrSelf test x) × (result ≤ rows table.now) }
 {
     let past = past_subtree(table, x);
     list_range(table, x, test, x, past, list)
@@ -82,30 +88,36 @@ fn past_subtree(table: &[u32], x: usize) -> usize
         return n;
     }
     let past = end_at(table, x) + 1;
-    if past < n { past } else { n }
+    past.min(n)
+}
+
+// Is y x itself or no attribute, and does it pass the test?
+#[tactic(auto, unfolding(meaning::proofs::Ranges::own_or_plain))]
+fn is_in_range(table: &[u32], x: usize, test: Test, y: usize) -> bool
+    requires { y < rows table.now }
+    ensures { result ≡ (own_or_plain table.now x y && passes 2 table.now 1 test y) }
+{
+    (x == y || !is_attribute(table, y)) && passes_test(table, 1, test, y)
 }
 
 // Writes the rows from one to before another that pass the test, attributes other than x left out, to the front of the list.
 fn list_range(
     table: &[u32],
     x: usize,
-    test: usize,
+    test: Test,
     from: usize,
     to: usize,
     list: &mut [u16],
 ) -> usize
     requires { (rows table.now ≤ most_rows) × (to ≤ rows table.now) × (rows table.now ≤ length list.old) }
-    ensures { (take result list.new ≡ keep (λ y. own_or_plain table.now x y && passes 2 table.now 1 (test_of test) y) (range (rows table.now) from to)) × (result ≤ rows table.now) }
+    ensures { (take result list.new ≡ keep (λ y. own_or_plain table.now x y && passes 2 table.now 1 test y) (range (rows table.now) from to)) × (result ≤ rows table.now) }
 {
     let mut m = 0;
-    let mut y = from;
-    while y < to {
-        let on_axis = either(same(x, y), !is_attribute(table, y));
-        if both(on_axis, passes_test(table, 1, test, y)) {
+    for y in from..to {
+        if is_in_range(table, x, test, y) {
             list[m] = y as u16;
             m += 1;
         }
-        y += 1;
     }
     m
 }
