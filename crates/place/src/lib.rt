@@ -4,13 +4,13 @@
 
 ghost use Rattle.std.specs.Prelude.{◌≡◌, ◌<◌, ◌≤◌};
 ghost use Rattle.meaning.specs.Table.{rows, most_rows};
-ghost use Rattle.meaning.specs.Axis.{axis_of, place};
+ghost use Rattle.meaning.specs.Axis.{place};
 ghost use Rattle.meaning.specs.Answers.{askable};
 ghost use Rattle.meaning.specs.Promises.{AnswersPlace};
 
 use axes::{holds, is_reverse, nth};
-use basics::{at_most, below, both, wide};
-use meaning::LAST_AXIS;
+use basics::wide;
+use meaning::{Axis, LAST_AXIS};
 use table::row_count;
 use table_check::check_table;
 
@@ -23,14 +23,13 @@ fn is_askable(table: &[u32], axis: usize, x: usize, y: usize) -> bool
         return false;
     }
     let n = row_count(table);
-    let from_a_node = both(at_most(axis, LAST_AXIS), below(x, n));
-    both(from_a_node, below(y, n))
+    axis <= LAST_AXIS && x < n && y < n
 }
 
 // The place of y on the axis of x: one more than the nodes of the axis that come before it.
-fn place_on(table: &[u32], axis: usize, x: usize, y: usize) -> usize
+fn place_on(table: &[u32], axis: Axis, x: usize, y: usize) -> usize
     requires { (rows table.now ≤ most_rows) × (x < rows table.now) × (y < rows table.now) }
-    ensures { (result ≡ place table.now (axis_of axis) x y) × (result ≤ most_rows) }
+    ensures { (result ≡ place table.now axis x y) × (result ≤ most_rows) }
 {
     if !holds(table, axis, x, y) {
         return 0;
@@ -39,12 +38,10 @@ fn place_on(table: &[u32], axis: usize, x: usize, y: usize) -> usize
     let reverse = is_reverse(axis);
     let own = nth(reverse, n, y);
     let mut before = 0;
-    let mut i = 0;
-    while i < own {
+    for i in 0..own {
         if holds(table, axis, x, nth(reverse, n, i)) {
             before += 1;
         }
-        i += 1;
     }
     before + 1
 }
@@ -54,11 +51,12 @@ fn place_on(table: &[u32], axis: usize, x: usize, y: usize) -> usize
 pub fn axis_place(table: &[u32], axis: u32, x: u32, y: u32) -> u32
     ensures { AnswersPlace table.now axis x y result }
 {
-    let a = wide(axis);
-    let from = wide(x);
+    let number = wide(axis);
+    let start = wide(x);
     let node = wide(y);
-    if !is_askable(table, a, from, node) {
+    if !is_askable(table, number, start, node) {
         return 0;
     }
-    place_on(table, a, from, node) as u32
+    let named = Axis::from(number);
+    place_on(table, named, start, node) as u32
 }
