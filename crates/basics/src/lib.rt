@@ -18,7 +18,7 @@ pub fn wide(x: u32) -> usize
 pub fn entry(s: &[u32], i: usize) -> usize
     ensures { (result ≡ get_or s.now i 0) × (result < 4294967296) }
 {
-    if i < s.len() { wide(s[i]) } else { 0 }
+    s.get(i).copied().unwrap_or(0) as usize
 }
 
 pub fn both(a: bool, b: bool) -> bool
@@ -78,26 +78,10 @@ pub fn told(number: u32, place: usize) -> WideAnswer
     }
 }
 
-// Copies numbers to the front of an output that has room for them.
-pub fn copy(numbers: &[u32], out: &mut [u32])
-    requires { length numbers.now ≤ length out.old }
-    ensures { out.new ≡ numbers.now ++ drop (length numbers.now) out.old }
+// Copies values to the front of an output that has room for them.
+pub fn copy<T: Copy>(from: &[T], out: &mut [T])
+    requires { length from.now ≤ length out.old }
+    ensures { out.new ≡ from.now ++ drop (length from.now) out.old }
 {
-    let mut i = 0;
-    while i < numbers.len() {
-        out[i] = numbers[i];
-        i += 1;
-    }
-}
-
-// Copies literals to the front of an output that has room for them.
-pub fn copy_literals(literals: &[f64], out: &mut [f64])
-    requires { length literals.now ≤ length out.old }
-    ensures { out.new ≡ literals.now ++ drop (length literals.now) out.old }
-{
-    let mut i = 0;
-    while i < literals.len() {
-        out[i] = literals[i];
-        i += 1;
-    }
+    out[..from.len()].copy_from_slice(from);
 }

@@ -10,7 +10,7 @@ ghost use Rattle.text.specs.Forms.{form_of, found};
 ghost use Rattle.text.specs.Reading.{ReadsPath};
 ghost use Rattle.reader.specs.Handing.{Clean, handed, literals_told, Hands};
 
-use basics::{copy, copy_literals};
+use basics::copy;
 use compose::compose;
 use names::index;
 use survey::survey_text;
@@ -76,7 +76,7 @@ fn hand_over(
         return answer;
     }
     copy(&drafted[..5 * count], rows);
-    copy_literals(&values[..held], literals);
+    copy(&values[..held], literals);
     answer
 }
 

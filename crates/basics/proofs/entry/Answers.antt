@@ -1,9 +1,0 @@
--- `basics::entry` meets its contract: past the end `get_or` gives its default, 0.
--- Assumes nothing.
-use mathlib.Core.Path.{sym}
-use lib.ListN.{get_or-eq_default}
-use borrow.Author.Rules.{rules}
-use Rattle.basics.proofs.entry.Goals as goal
-
-pub returns-else-i-s : goal.returns-else-i-s
-returns-else-i-s c = (sym (get_or-eq_default c.args.s.now 0 c.if-i-s.false), search rules)
