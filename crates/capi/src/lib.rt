@@ -9,6 +9,7 @@ ghost use Rattle.meaning.specs.Promises.{ChecksTable, AnswersPlace, ChecksPath, 
 ghost use Rattle.files.specs.Answers.{ReadsTable, WritesTable};
 
 use files::{read_table, write_table};
+use meaning::Answer;
 use path_check::check_path;
 use place::axis_place;
 use select::evaluate;
@@ -20,7 +21,7 @@ use view::ends_of;
 pub extern "C" fn bt_check_table(table: &[u32], place: &mut u32) -> u32
     ensures { ChecksTable table.now (answer result place.new) }
 {
-    let answer = check_table(table);
+    let answer = Answer::from(check_table(table));
     *place = answer.place;
     answer.number
 }

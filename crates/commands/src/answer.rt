@@ -20,7 +20,7 @@ fn widened(answer: Answer) -> WideAnswer {
 }
 
 pub fn answer_check_table(rt: &impl Print, line: &[u8], table: &[u32]) -> io::Result<()> {
-    let answer = table_check::check_table(table);
+    let answer = Answer::from(table_check::check_table(table));
     write_answer(rt, line, widened(answer), Unit::Row, 0, front(table, 0))
 }
 
@@ -32,7 +32,7 @@ pub fn answer_limit(rt: &impl Print, line: &[u8], length: usize) -> io::Result<(
     }
     let space = [0u32; 4 * MOST_ROWS + 4];
     let lent: &[u32] = &space;
-    let answer = table_check::check_table(front(lent, length));
+    let answer = Answer::from(table_check::check_table(front(lent, length)));
     write_library_limit(rt, line, widened(answer), MOST_ROWS)
 }
 

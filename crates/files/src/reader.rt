@@ -9,7 +9,7 @@ ghost use Rattle.files.specs.Parts.{begins, LineAt, Passed, HeadOf, form_from};
 
 use basics::{WideAnswer, told};
 use decimal::Decimal;
-use meaning::MOST_ROWS;
+use meaning::{Answer, MOST_ROWS};
 use table_check::check_table;
 
 // The numbers of the largest table.
@@ -147,7 +147,7 @@ fn hand_over(numbers: &[u32], out: &mut [u32]) -> WideAnswer
     if out.len() < count {
         return told(21, count);
     }
-    let checked = check_table(numbers);
+    let checked = Answer::from(check_table(numbers));
     if checked.number != 0 {
         return told(checked.number, checked.place as usize);
     }

@@ -9,6 +9,7 @@ ghost use Rattle.files.specs.Parts.{keyed};
 
 use basics::{WideAnswer, told};
 use decimal::width;
+use meaning::Answer;
 use table_check::check_table;
 
 // How many bytes the line of number i has.
@@ -95,7 +96,7 @@ fn put_table(table: &[u32], out: &mut [u8])
 pub fn write_table(table: &[u32], out: &mut [u8]) -> WideAnswer
     ensures { WritesTable table.now out.old (answer result.number result.place) out.new }
 {
-    let checked = check_table(table);
+    let checked = Answer::from(check_table(table));
     if checked.number != 0 {
         return told(checked.number, checked.place as usize);
     }

@@ -10,7 +10,7 @@ ghost use Rattle.meaning.specs.Promises.{AnswersPlace};
 
 use axes::{holds, is_reverse, nth};
 use basics::wide;
-use meaning::{Axis, LAST_AXIS};
+use meaning::{Answer, Axis, LAST_AXIS};
 use table::row_count;
 use table_check::check_table;
 
@@ -18,7 +18,7 @@ use table_check::check_table;
 fn is_askable(table: &[u32], axis: usize, x: usize, y: usize) -> bool
     ensures { result ≡ askable table.now axis x y }
 {
-    let answer = check_table(table);
+    let answer = Answer::from(check_table(table));
     if answer.number != 0 {
         return false;
     }

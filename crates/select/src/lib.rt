@@ -69,7 +69,7 @@ pub fn evaluate(
     if !is_edition(edition) {
         return given(14, edition);
     }
-    let of_table = check_table(table);
+    let of_table = Answer::from(check_table(table));
     if of_table.number != 0 {
         return of_table;
     }

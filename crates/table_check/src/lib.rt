@@ -5,12 +5,13 @@
 ghost use Rattle.std.specs.Prelude.{◌≡◌, true, false, not, ◌+◌, ◌<◌, ◌≤◌, length};
 ghost use Rattle.meaning.specs.Lists.{lowest};
 ghost use Rattle.meaning.specs.Table.{rows, most_rows, length_allowed, good_root, is_attribute, good_name, good_parent, text_of_root, later_element, text_after_text, among_attributes, good_row, broken};
+ghost use Rattle.meaning.specs.Answers.{told};
 ghost use Rattle.meaning.specs.Promises.{ChecksTable};
 ghost use Rattle.table_check.specs.Next.{first_element, good_numbers, well_placed, Behind, Next, Looked};
 ghost use Rattle.table_check.specs.Names.{Seen, unlisted, stopped};
 
-use basics::{at_most, below, both, either, given, same};
-use meaning::{Answer, MOST_ROWS};
+use basics::{at_most, below, both, either, same};
+use meaning::{MOST_ROWS, Refusal};
 use table::{end_at, is_attribute, kind_at, name_at, parent_at, row_count, size_at};
 
 // The largest name.
@@ -239,17 +240,17 @@ fn lowest_broken_row(table: &[u32]) -> usize
     lowest_behind_root(table, first, &mut all)
 }
 
-// 1 for a length that is not allowed, 2 with the lowest broken row, 0 with the row count.
-pub fn check_table(table: &[u32]) -> Answer
-    ensures { ChecksTable table.now result }
+// The row count of an accepted table; else a length that is not allowed, or the lowest broken row.
+pub fn check_table(table: &[u32]) -> Result<u32, Refusal>
+    ensures { ChecksTable table.now (told result) }
 {
     if !length_allowed(table) {
-        return given(1, 0);
+        return Err(Refusal::TableLength);
     }
     let n = row_count(table);
     let at = lowest_broken_row(table);
     if at < n {
-        return given(2, at);
+        return Err(Refusal::BrokenRow(at as u32));
     }
-    given(0, n)
+    Ok(n as u32)
 }

@@ -8,7 +8,7 @@ ghost use Rattle.meaning.specs.Promises.{FindsPart, ShowsPart};
 ghost use Rattle.meaning.proofs.Lists.{Rising};
 
 use basics::{below, both, entry, wide};
-use meaning::Part;
+use meaning::{Answer, Part};
 use table::{end_at, row_count};
 use table_check::check_table;
 
@@ -42,7 +42,7 @@ fn is_ascending(table: &[u32], list: &[u32]) -> bool
 fn is_viewable(table: &[u32], list: &[u32], v: usize) -> bool
     ensures { result ≡ viewable table.now list.now v }
 {
-    let answer = check_table(table);
+    let answer = Answer::from(check_table(table));
     if answer.number != 0 {
         return false;
     }

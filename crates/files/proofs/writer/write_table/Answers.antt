@@ -13,30 +13,30 @@ use Rattle.files.proofs.writer.write_table.Goals as goal
 
 pub returns-then-checked-ne0 : goal.returns-then-checked-ne0
 returns-then-checked-ne0 c =
-    let e = c.check_table-checked.ensures in
+    let e = c.from-checked.ensures ∙ c.check_table.ensures in
     refuses _ _ _ _ _
     (same_answer c.told.ensures.0 c.told.ensures.1 ∙ e ∙ write_broken _ _ (λ z. c.if-checked-ne0.true (ap (λ (a : Answer). a.number) e ∙ z)))
     (λ z. c.if-checked-ne0.true (sym c.told.ensures.0 ∙ z))
 
 pub bytes_needed-needed-requires : goal.bytes_needed-needed-requires
 bytes_needed-needed-requires c =
-    let passed : (table_answer c.args.table.now).number ≡ 0 = ap (λ (a : Answer). a.number) (sym c.check_table-checked.ensures) ∙ c.if-checked-ne0.false in
+    let passed : (table_answer c.args.table.now).number ≡ 0 = ap (λ (a : Answer). a.number) (sym (c.from-checked.ensures ∙ c.check_table.ensures)) ∙ c.if-checked-ne0.false in
     T.allowed _ (table_accepted _ passed)
 
 pub returns-then-out-needed : goal.returns-then-out-needed
 returns-then-out-needed c =
-    let passed : (table_answer c.args.table.now).number ≡ 0 = ap (λ (a : Answer). a.number) (sym c.check_table-checked.ensures) ∙ c.if-checked-ne0.false in
+    let passed : (table_answer c.args.table.now).number ≡ 0 = ap (λ (a : Answer). a.number) (sym (c.from-checked.ensures ∙ c.check_table.ensures)) ∙ c.if-checked-ne0.false in
     let n = c.bytes_needed-needed.ensures in
     refuses _ _ _ _ _ (same_answer c.told-then-out-needed.ensures.0 (c.told-then-out-needed.ensures.1 ∙ n) ∙ write_short _ _ passed (omega arith)) (λ z. omega arith)
 
 pub put_table-requires : goal.put_table-requires
 put_table-requires c =
-    let passed : (table_answer c.args.table.now).number ≡ 0 = ap (λ (a : Answer). a.number) (sym c.check_table-checked.ensures) ∙ c.if-checked-ne0.false in
+    let passed : (table_answer c.args.table.now).number ≡ 0 = ap (λ (a : Answer). a.number) (sym (c.from-checked.ensures ∙ c.check_table.ensures)) ∙ c.if-checked-ne0.false in
     (T.allowed _ (table_accepted _ passed), omega arith)
 
 pub returns : goal.returns
 returns c =
-    let passed : (table_answer c.args.table.now).number ≡ 0 = ap (λ (a : Answer). a.number) (sym c.check_table-checked.ensures) ∙ c.if-checked-ne0.false in
+    let passed : (table_answer c.args.table.now).number ≡ 0 = ap (λ (a : Answer). a.number) (sym (c.from-checked.ensures ∙ c.check_table.ensures)) ∙ c.if-checked-ne0.false in
     let n = c.bytes_needed-needed.ensures in
     writes _ _ _ _ _ (same_answer c.told-2.ensures.0 (c.told-2.ensures.1 ∙ n) ∙ write_whole _ _ passed (omega arith))
     _ c.told-2.ensures.0 (c.put_table.ensures ∙ laid_front c.args.out.now (bytes_of c.args.table.now))
