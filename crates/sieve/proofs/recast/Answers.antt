@@ -1,20 +1,9 @@
--- The answers of `sieve::recast`: what its code leaves to show, by the invariants beside this file. Assumes nothing.
-use mathlib.Core.Path.{refl}
-use lib.ListN.{length-set}
-use native.Mathlib.Omega.{arith}
-use Rattle.sieve.specs.Sieve.{Recast, recast_of}
-use Rattle.sieve.proofs.Sieves.{became_start, became_more, became_done}
+-- `sieve::recast` meets its contract: what its closure makes of a state is what the contract says of it.
+-- Assumes nothing.
+use Rattle.std.proofs.Common.{rules}
+use Rattle.sieve.specs.Sieve.{Recast, recast_of, Became}
 use Rattle.sieve.proofs.recast.Goals as goal
 
-pub loop-i-init : goal.loop-i-init
-loop-i-init c = (omega arith, refl, became_start _ _ _)
-
-pub loop-i-preserved : goal.loop-i-preserved
-unfolding recast_of
-loop-i-preserved c =
-    let inv = c.loop-i.invariant in
-    (omega arith, simp length-set inv.1, became_more _ _ _ _ _ _ inv.2 (omega arith) c.choose.ensures)
-
 pub returns : goal.returns
-unfolding Recast
-returns c = became_done _ _ _ _ _ c.loop-i.invariant.2 (omega arith)
+unfolding Recast Became recast_of
+returns c y l = search (rules, c.each.ensures.made y 0 l)

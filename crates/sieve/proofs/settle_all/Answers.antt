@@ -3,8 +3,8 @@
 use Rattle.sieve.proofs.Sieves.{all_sieved, none_sieved}
 use Rattle.sieve.proofs.settle_all.Goals as goal
 
-pub returns-then-truth : goal.returns-then-truth
-returns-then-truth c = rw c.if-truth.true (all_sieved _ _ _)
+pub returns-else-not-truth : goal.returns-else-not-truth
+returns-else-not-truth c = rw c.if-not-truth.false (all_sieved _ _ _)
 
-pub returns : goal.returns
-returns c = rw c.if-truth.false (none_sieved _ _ _ _ c.recast.ensures)
+pub returns-then-not-truth : goal.returns-then-not-truth
+returns-then-not-truth c = rw c.if-not-truth.true (none_sieved _ _ _ _ c.recast.ensures)
