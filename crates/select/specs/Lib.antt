@@ -1,1 +1,2 @@
+pub mod Rooted
 pub mod Sets

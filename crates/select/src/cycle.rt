@@ -5,8 +5,8 @@
 ghost use Rattle.std.specs.Prelude.{◌≡◌, true, false, ◌||◌, cond, ℕ, ◌+◌, ◌-◌, ◌*◌, ◌<◌, ◌≤◌, length, get_or, take};
 ghost use Rattle.meaning.specs.Lists.{has};
 ghost use Rattle.meaning.specs.Table.{rows, most_rows};
-ghost use Rattle.meaning.specs.Rows.{field};
-ghost use Rattle.meaning.specs.Tree.{tree};
+ghost use Rattle.meaning.specs.Rows.{field, most_path_rows, second_link};
+ghost use Rattle.meaning.specs.Tree.{tree, index_or_axis, test_at};
 ghost use Rattle.meaning.specs.Turning as turning;
 ghost use Rattle.meaning.specs.Meaning as Meaning;
 ghost use Rattle.meaning.proofs.Marks.{listed};
@@ -14,10 +14,9 @@ ghost use Rattle.meaning.proofs.Evaluation.{step_to};
 ghost use Rattle.meaning.proofs.Free.{true_at};
 ghost use Rattle.meaning.proofs.Backward.{backs};
 ghost use Rattle.sieve.specs.Sieve.{Sieved, Bounded};
-ghost use Rattle.cover.specs.Ready.{Ready};
 ghost use Rattle.select.specs.Sets.{Narrowed, Thinned, Led, LedBy};
 
-use basics::below;
+use crate::evaluation::{Evaluation, Step};
 use candidates::list_candidates;
 use counting::{counting, counts, is_heavy, is_over_path};
 use cover::cover_active;
@@ -29,492 +28,354 @@ use sieve::{choose, exchange, lower, put_out, raise, retain, settle, settle_all}
 use table::row_count;
 use values::{apply, float_of, is_decided, keeps, takes_first, takes_second, truth_of};
 
-// The value of the expression that a link names, in a context.
-#[cycle(selection)]
-fn expression(
-    edition: usize,
-    table: &[u32],
-    path: &[u32],
-    literals: &[f64],
-    link: usize,
-    context: Context,
-) -> Value
-    requires { Ready table.now link }
-    ensures { result ≡ Meaning.value edition table.now literals.now (tree path.now link) context }
+// The step of a row.
+fn step_at(path: &[u32], row: usize) -> Step
+    requires { row ≤ most_path_rows }
+    ensures predicates { (result.predicates ≡ second_link path.now row) × (result.predicates ≤ row) }
+    ensures axis { result.axis ≡ index_or_axis path.now row }
+    ensures test { result.test ≡ test_at path.now row }
 {
-    let none = Value::Truth(false);
-    if link == 0 {
-        return none;
+    Step {
+        predicates: second_link(path, row),
+        axis: index_or_axis(path, row),
+        test: test_at(path, row),
     }
-    let row = link - 1;
-    let op = field_at(path, row, 0);
-    let index = index_or_axis(path, row);
-    let first = first_link(path, row);
-    if is_over_path(op) {
-        let n = tally(edition, table, path, literals, first, context.node);
-        return apply(literals, op, index, none, none, n, context);
-    }
-    if takes_second(op) {
-        let second = second_link(path, row);
-        let u = expression(edition, table, path, literals, first, context);
-        if is_decided(op, u) {
-            return apply(literals, op, index, u, none, 0, context);
+}
+
+impl Evaluation<'_> {
+    // The value of the expression that a link names, in a context.
+    #[cycle(selection)]
+    fn expression(&self, link: usize, context: Context) -> Value
+        requires { link ≤ most_path_rows }
+        ensures { result ≡ Meaning.value self.now.edition self.now.table.now self.now.literals.now (tree self.now.path.now link) context }
+    {
+        let none = Value::Truth(false);
+        if link == 0 {
+            return none;
         }
-        let v = expression(edition, table, path, literals, second, context);
-        return apply(literals, op, index, u, v, 0, context);
-    }
-    if takes_first(op) {
-        let u = expression(edition, table, path, literals, first, context);
-        return apply(literals, op, index, u, none, 0, context);
-    }
-    apply(literals, op, index, none, none, 0, context)
-}
-
-// Filters the first n nodes of the list, in place, by the chain of predicates that a link names; the first of them works first.
-// Positions run from 1 over what the predicates before it kept, and the size is how many they kept.
-#[cycle(selection)]
-fn keep(
-    edition: usize,
-    table: &[u32],
-    path: &[u32],
-    literals: &[f64],
-    link: usize,
-    list: &mut [u16],
-    n: usize,
-) -> usize
-    requires { (Ready table.now link) × ((n ≤ most_rows) × (length list.old ≡ most_rows)) }
-    ensures { (take result list.new ≡ Meaning.filtered edition table.now literals.now (tree path.now link) (take n list.old)) × (result ≤ n) }
-{
-    if link == 0 {
-        return n;
-    }
-    let row = link - 1;
-    let before = first_link(path, row);
-    let k = keep(edition, table, path, literals, before, list, n);
-    let test = second_link(path, row);
-    let size = float_of(k);
-    let mut m = 0;
-    let mut i = 0;
-    while i < k {
-        let y = list[i];
-        let node = y as usize;
-        let position = float_of(i + 1);
-        let context = Context {
-            node,
-            position,
-            size,
-        };
-        let v = expression(edition, table, path, literals, test, context);
-        if keeps(v, position) {
-            list[m] = y;
-            m += 1;
+        let row = link - 1;
+        let op = field_at(self.path, row, 0);
+        let index = index_or_axis(self.path, row);
+        let first = first_link(self.path, row);
+        if is_over_path(op) {
+            let n = self.tally(first, context.node);
+            return apply(self.literals, op, index, none, none, n, context);
         }
-        i += 1;
+        if takes_second(op) {
+            let second = second_link(self.path, row);
+            let u = self.expression(first, context);
+            if is_decided(op, u) {
+                return apply(self.literals, op, index, u, none, 0, context);
+            }
+            let v = self.expression(second, context);
+            return apply(self.literals, op, index, u, v, 0, context);
+        }
+        if takes_first(op) {
+            let u = self.expression(first, context);
+            return apply(self.literals, op, index, u, none, 0, context);
+        }
+        apply(self.literals, op, index, none, none, 0, context)
     }
-    m
-}
 
-// Marks what one step reaches from node x: the candidates that the predicates keep.
-#[cycle(selection)]
-fn spread(
-    edition: usize,
-    table: &[u32],
-    path: &[u32],
-    literals: &[f64],
-    link: usize,
-    axis: usize,
-    test: usize,
-    x: usize,
-    next: &mut [bool],
-    list: &mut [u16],
-)
-    requires { (Ready table.now link) × ((x < 4294967296) × (length list.old ≡ most_rows)) }
-    ensures { (y : ℕ) → y < length next.old → get_or next.new y false ≡ (get_or next.old y false || has (step_to edition table.now literals.now path.now link axis test x) y) }
-{
-    let k = list_candidates(edition, table, axis, test, x, list);
-    let m = keep(edition, table, path, literals, link, list, k);
-    add_marks(list, m, next);
-}
+    // Filters the first n nodes of the list, in place, by the chain of predicates that a link names; the first of them works first.
+    // Positions run from 1 over what the predicates before it kept, and the size is how many they kept.
+    #[cycle(selection)]
+    fn keep(&self, link: usize, list: &mut [u16], n: usize) -> usize
+        requires { (link ≤ most_path_rows) × (n ≤ most_rows) × (length list.old ≡ most_rows) }
+        ensures { (take result list.new ≡ Meaning.filtered self.now.edition self.now.table.now self.now.literals.now (tree self.now.path.now link) (take n list.old)) × (result ≤ n) }
+    {
+        if link == 0 {
+            return n;
+        }
+        let row = link - 1;
+        let before = first_link(self.path, row);
+        let k = self.keep(before, list, n);
+        let test = second_link(self.path, row);
+        let size = float_of(k);
+        let mut m = 0;
+        for i in 0..k {
+            let y = list[i];
+            let node = y as usize;
+            let position = float_of(i + 1);
+            let context = Context {
+                node,
+                position,
+                size,
+            };
+            let v = self.expression(test, context);
+            if keeps(v, position) {
+                list[m] = y;
+                m += 1;
+            }
+        }
+        m
+    }
 
-// Takes one step from every marked node: then the union of what they reach is marked.
-#[cycle(selection)]
-fn step(
-    edition: usize,
-    table: &[u32],
-    path: &[u32],
-    literals: &[f64],
-    link: usize,
-    axis: usize,
-    test: usize,
-    marks: &mut [bool],
-)
-    requires { (Ready table.now link) × (length marks.old ≡ most_rows) }
-    ensures { listed table.now marks.new ≡ Meaning.union table.now (step_to edition table.now literals.now path.now link axis test) (listed table.now marks.old) }
-{
-    let n = row_count(table);
-    let mut next = [false; MOST_ROWS];
-    let mut list = [0u16; MOST_ROWS];
-    let mut x = 0;
-    while x < n {
-        if marks[x] {
-            spread(
-                edition, table, path, literals, link, axis, test, x, &mut next, &mut list,
+    // Marks what one step reaches from node x: the candidates that the predicates keep.
+    #[cycle(selection)]
+    fn spread(&self, step: Step, x: usize, next: &mut [bool], list: &mut [u16])
+        requires { (step.predicates ≤ most_path_rows) × (x < 4294967296) × (length list.old ≡ most_rows) }
+        ensures { (y : ℕ) → y < length next.old → get_or next.new y false ≡ (get_or next.old y false || has (step_to self.now.edition self.now.table.now self.now.literals.now self.now.path.now step.predicates step.axis step.test x) y) }
+    {
+        let k = list_candidates(self.edition, self.table, step.axis, step.test, x, list);
+        let m = self.keep(step.predicates, list, k);
+        add_marks(list, m, next);
+    }
+
+    // Takes one step from every marked node: then the union of what they reach is marked.
+    #[cycle(selection)]
+    fn step(&self, step: Step, marks: &mut [bool])
+        requires { (step.predicates ≤ most_path_rows) × (length marks.old ≡ most_rows) }
+        ensures { listed self.now.table.now marks.new ≡ Meaning.union self.now.table.now (step_to self.now.edition self.now.table.now self.now.literals.now self.now.path.now step.predicates step.axis step.test) (listed self.now.table.now marks.old) }
+    {
+        let n = row_count(self.table);
+        let mut next = [false; MOST_ROWS];
+        let mut list = [0u16; MOST_ROWS];
+        for x in 0..n {
+            if marks[x] {
+                self.spread(step, x, &mut next, &mut list);
+            }
+        }
+        copy_marks(self.table, &next, marks);
+    }
+
+    // Decides the truth that a link names for the active rows, one by one.
+    #[cycle(selection)]
+    fn decide_each(&self, link: usize, active: u16, states: &mut [u16])
+        requires { (link ≤ most_path_rows) × (active ≤ 1000) × (length states.old ≡ most_rows) }
+        ensures { Sieved (true_at self.now.edition self.now.table.now self.now.literals.now (tree self.now.path.now link)) active (rows self.now.table.now) states.old states.new }
+    {
+        let n = row_count(self.table);
+        let unasked = float_of(0);
+        for node in 0..n {
+            if states[node] == active {
+                let context = Context {
+                    node,
+                    position: unasked,
+                    size: unasked,
+                };
+                let v = self.expression(link, context);
+                states[node] = choose(truth_of(v), active, active + 1);
+            }
+        }
+    }
+
+    // Decides an and, or where any an or: the rows that the first operand leaves open are raised by a level for the second.
+    #[cycle(selection)]
+    fn decide_pair(&self, link: usize, any: bool, active: u16, states: &mut [u16])
+        requires { (0 < link) × (link ≤ most_path_rows) × (active + 2 * link ≤ 1000) × (length states.old ≡ most_rows) × (field self.now.path.now (link - 1) 0 ≡ cond any 17 16) × Bounded (rows self.now.table.now) active states.old }
+        ensures { Sieved (true_at self.now.edition self.now.table.now self.now.literals.now (tree self.now.path.now link)) active (rows self.now.table.now) states.old states.new }
+    {
+        let row = link - 1;
+        let first = first_link(self.path, row);
+        let second = second_link(self.path, row);
+        let n = row_count(self.table);
+        self.decide(first, active, states);
+        raise(states, n, any, active);
+        self.decide(second, active + 2, states);
+        lower(states, n, active);
+    }
+
+    // Decides a not: the rows where its operand holds and those where it does not are exchanged.
+    #[cycle(selection)]
+    fn decide_not(&self, link: usize, active: u16, states: &mut [u16])
+        requires { (0 < link) × (link ≤ most_path_rows) × (active + 2 * link ≤ 1000) × (length states.old ≡ most_rows) × (field self.now.path.now (link - 1) 0 ≡ 18) × Bounded (rows self.now.table.now) active states.old }
+        ensures { Sieved (true_at self.now.edition self.now.table.now self.now.literals.now (tree self.now.path.now link)) active (rows self.now.table.now) states.old states.new }
+    {
+        let first = first_link(self.path, link - 1);
+        self.decide(first, active, states);
+        exchange(states, row_count(self.table), active);
+    }
+
+    // Takes one step back: from the marked nodes that are near, pass the test and hold to those whose axis they are on.
+    #[cycle(selection)]
+    fn step_back(&self, step: Step, near: &[bool], marks: &mut [bool])
+        requires { (step.predicates ≤ most_path_rows) × (length near.now ≡ most_rows) × (length marks.old ≡ most_rows) }
+        ensures { LedBy self.now.edition self.now.table.now self.now.literals.now near.now (tree self.now.path.now step.predicates) step.axis step.test marks.old marks.new }
+    {
+        meet(self.table, near, marks);
+        sift(self.edition, self.table, step.axis, step.test, marks);
+        self.narrow(step.predicates, marks);
+        reach_back(self.table, step.axis, marks);
+    }
+
+    // Takes the chain of steps that a link names backwards, the last of them first: from the marked nodes to those from which it
+    // leads to one of them, over nodes that are near alone.
+    #[cycle(selection)]
+    fn back(&self, link: usize, near: &[bool], marks: &mut [bool])
+        requires { (link ≤ most_path_rows) × (length near.now ≡ most_rows) × (length marks.old ≡ most_rows) }
+        ensures { Led self.now.edition self.now.table.now self.now.literals.now near.now (tree self.now.path.now link) marks.old marks.new }
+    {
+        if link == 0 {
+            return;
+        }
+        let row = link - 1;
+        self.step_back(step_at(self.path, row), near, marks);
+        let before = first_link(self.path, row);
+        self.back(before, near, marks);
+    }
+
+    // Decides for the active rows whether the chain of steps that a link names leads from them to any node: backwards from all,
+    // or, where its predicates need a look at each node, from those that it may come by.
+    #[cycle(selection)]
+    fn decide_back(&self, link: usize, active: u16, states: &mut [u16])
+        requires { (link ≤ most_path_rows) × (active ≤ 1000) × (length states.old ≡ most_rows) }
+        ensures { Sieved (backs self.now.edition self.now.table.now self.now.literals.now (tree self.now.path.now link) (λ z. true)) active (rows self.now.table.now) states.old states.new }
+    {
+        let n = row_count(self.table);
+        let heavy = is_heavy(self.path, link);
+        let mut near = [!heavy; MOST_ROWS];
+        if heavy {
+            cover_active(
+                self.edition,
+                self.table,
+                self.path,
+                link,
+                active,
+                states,
+                &mut near,
             );
         }
-        x += 1;
+        let mut marks = [true; MOST_ROWS];
+        self.back(link, &near, &mut marks);
+        settle(states, &marks, n, active);
     }
-    copy_marks(table, &next, marks);
-}
 
-// Decides the truth that a link names for the active rows, one by one.
-#[cycle(selection)]
-fn decide_each(
-    edition: usize,
-    table: &[u32],
-    path: &[u32],
-    literals: &[f64],
-    link: usize,
-    active: u16,
-    states: &mut [u16],
-)
-    requires { (Ready table.now link) × ((active ≤ 1000) × (length states.old ≡ most_rows)) }
-    ensures { Sieved (true_at edition table.now literals.now (tree path.now link)) active (rows table.now) states.old states.new }
-{
-    let n = row_count(table);
-    let unasked = float_of(0);
-    let mut i = 0;
-    while i < n {
-        if states[i] == active {
-            let context = Context {
-                node: i,
-                position: unasked,
-                size: unasked,
-            };
-            let v = expression(edition, table, path, literals, link, context);
-            states[i] = choose(truth_of(v), active, active + 1);
+    // Decides an existence: of an absolute path once for all rows, of a relative path backwards, or row by row where a step counts.
+    #[cycle(selection)]
+    fn decide_path(&self, link: usize, active: u16, states: &mut [u16])
+        requires { (0 < link) × (link ≤ most_path_rows) × (active ≤ 1000) × (length states.old ≡ most_rows) × (field self.now.path.now (link - 1) 0 ≡ 20) }
+        ensures { Sieved (true_at self.now.edition self.now.table.now self.now.literals.now (tree self.now.path.now link)) active (rows self.now.table.now) states.old states.new }
+    {
+        let held = first_link(self.path, link - 1);
+        if held == 0 {
+            self.decide_each(link, active, states);
+            return;
         }
-        i += 1;
+        let top = held - 1;
+        let op = field_at(self.path, top, 0);
+        if op == 23 {
+            let k = self.tally(held, 0);
+            settle_all(states, row_count(self.table), active, 0 < k);
+            return;
+        }
+        let steps = first_link(self.path, top);
+        if counts(self.path, steps) {
+            self.decide_each(link, active, states);
+            return;
+        }
+        self.decide_back(steps, active, states);
     }
-}
 
-// Decides an and, or where any an or: the rows that the first operand leaves open are raised by a level for the second.
-#[cycle(selection)]
-fn decide_pair(
-    edition: usize,
-    table: &[u32],
-    path: &[u32],
-    literals: &[f64],
-    link: usize,
-    any: bool,
-    active: u16,
-    states: &mut [u16],
-)
-    requires { (Ready table.now link) × (((0 < link) × (active + 2 * link ≤ 1000) × (length states.old ≡ most_rows)) × ((field path.now (link - 1) 0 ≡ cond any 17 16) × (Bounded (rows table.now) active states.old))) }
-    ensures { Sieved (true_at edition table.now literals.now (tree path.now link)) active (rows table.now) states.old states.new }
-{
-    let row = link - 1;
-    let first = first_link(path, row);
-    let second = second_link(path, row);
-    let n = row_count(table);
-    decide(edition, table, path, literals, first, active, states);
-    raise(states, n, any, active);
-    decide(edition, table, path, literals, second, active + 2, states);
-    lower(states, n, active);
-}
-
-// Decides a not: the rows where its operand holds and those where it does not are exchanged.
-#[cycle(selection)]
-fn decide_not(
-    edition: usize,
-    table: &[u32],
-    path: &[u32],
-    literals: &[f64],
-    link: usize,
-    active: u16,
-    states: &mut [u16],
-)
-    requires { (Ready table.now link) × (((0 < link) × (active + 2 * link ≤ 1000) × (length states.old ≡ most_rows)) × ((field path.now (link - 1) 0 ≡ 18) × (Bounded (rows table.now) active states.old))) }
-    ensures { Sieved (true_at edition table.now literals.now (tree path.now link)) active (rows table.now) states.old states.new }
-{
-    let first = first_link(path, link - 1);
-    decide(edition, table, path, literals, first, active, states);
-    exchange(states, row_count(table), active);
-}
-
-// Takes one step back: from the marked nodes that are near, pass the test and hold to those whose axis they are on.
-#[cycle(selection)]
-fn step_back(
-    edition: usize,
-    table: &[u32],
-    path: &[u32],
-    literals: &[f64],
-    link: usize,
-    axis: usize,
-    test: usize,
-    near: &[bool],
-    marks: &mut [bool],
-)
-    requires { (Ready table.now link) × ((length near.now ≡ most_rows) × (length marks.old ≡ most_rows)) }
-    ensures { LedBy edition table.now literals.now near.now (tree path.now link) axis test marks.old marks.new }
-{
-    meet(table, near, marks);
-    sift(edition, table, axis, test, marks);
-    narrow(edition, table, path, literals, link, marks);
-    reach_back(table, axis, marks);
-}
-
-// Takes the chain of steps that a link names backwards, the last of them first: from the marked nodes to those from which it
-// leads to one of them, over nodes that are near alone.
-#[cycle(selection)]
-fn back(
-    edition: usize,
-    table: &[u32],
-    path: &[u32],
-    literals: &[f64],
-    link: usize,
-    near: &[bool],
-    marks: &mut [bool],
-)
-    requires { (Ready table.now link) × ((length near.now ≡ most_rows) × (length marks.old ≡ most_rows)) }
-    ensures { Led edition table.now literals.now near.now (tree path.now link) marks.old marks.new }
-{
-    if link == 0 {
-        return;
+    // Decides the truth that a link names for the rows whose state is active: it stays where the truth holds, and becomes one
+    // more where it does not.
+    #[cycle(selection)]
+    fn decide(&self, link: usize, active: u16, states: &mut [u16])
+        requires { (link ≤ most_path_rows) × (active + 2 * link ≤ 1000) × (length states.old ≡ most_rows) × Bounded (rows self.now.table.now) active states.old }
+        ensures { Sieved (true_at self.now.edition self.now.table.now self.now.literals.now (tree self.now.path.now link)) active (rows self.now.table.now) states.old states.new }
+    {
+        if link == 0 {
+            self.decide_each(link, active, states);
+            return;
+        }
+        let op = field_at(self.path, link - 1, 0);
+        match op {
+            16 => self.decide_pair(link, false, active, states),
+            17 => self.decide_pair(link, true, active, states),
+            18 => self.decide_not(link, active, states),
+            20 => self.decide_path(link, active, states),
+            _ => self.decide_each(link, active, states),
+        }
     }
-    let row = link - 1;
-    let tests = second_link(path, row);
-    let axis = index_or_axis(path, row);
-    let test = test_at(path, row);
-    step_back(
-        edition, table, path, literals, tests, axis, test, near, marks,
-    );
-    let before = first_link(path, row);
-    back(edition, table, path, literals, before, near, marks);
-}
 
-// Decides for the active rows whether the chain of steps that a link names leads from them to any node: backwards from all,
-// or, where its predicates need a look at each node, from those that it may come by.
-#[cycle(selection)]
-fn decide_back(
-    edition: usize,
-    table: &[u32],
-    path: &[u32],
-    literals: &[f64],
-    link: usize,
-    active: u16,
-    states: &mut [u16],
-)
-    requires { (Ready table.now link) × ((active ≤ 1000) × (length states.old ≡ most_rows)) }
-    ensures { Sieved (backs edition table.now literals.now (tree path.now link) (λ z. true)) active (rows table.now) states.old states.new }
-{
-    let n = row_count(table);
-    let heavy = is_heavy(path, link);
-    let mut near = [!heavy; MOST_ROWS];
-    if heavy {
-        cover_active(edition, table, path, link, active, states, &mut near);
+    // Of the rows that are active at the first level those stay so at which the predicates of the chain that a link names hold,
+    // whatever their position: what the predicates before it left out, state 3, is left out of its own truth.
+    #[cycle(selection)]
+    fn thin(&self, link: usize, states: &mut [u16])
+        requires { (link ≤ most_path_rows) × (length states.old ≡ most_rows) × Bounded (rows self.now.table.now) 3 states.old }
+        ensures { Thinned self.now.edition self.now.table.now self.now.literals.now (tree self.now.path.now link) states.old states.new × Bounded (rows self.now.table.now) 3 states.new }
+    {
+        if link == 0 {
+            return;
+        }
+        let row = link - 1;
+        let before = first_link(self.path, row);
+        self.thin(before, states);
+        let held = second_link(self.path, row);
+        put_out(states, row_count(self.table));
+        self.decide(held, 2, states);
     }
-    let mut marks = [true; MOST_ROWS];
-    back(edition, table, path, literals, link, &near, &mut marks);
-    settle(states, &marks, n, active);
-}
 
-// Decides an existence: of an absolute path once for all rows, of a relative path backwards, or row by row where a step counts.
-#[cycle(selection)]
-fn decide_path(
-    edition: usize,
-    table: &[u32],
-    path: &[u32],
-    literals: &[f64],
-    link: usize,
-    active: u16,
-    states: &mut [u16],
-)
-    requires { (Ready table.now link) × (((0 < link) × (active ≤ 1000) × (length states.old ≡ most_rows)) × (field path.now (link - 1) 0 ≡ 20)) }
-    ensures { Sieved (true_at edition table.now literals.now (tree path.now link)) active (rows table.now) states.old states.new }
-{
-    let held = first_link(path, link - 1);
-    if held == 0 {
-        decide_each(edition, table, path, literals, link, active, states);
-        return;
+    // Of the marked nodes those stay marked at which the predicates of the chain that a link names hold, whatever their position.
+    #[cycle(selection)]
+    fn narrow(&self, link: usize, marks: &mut [bool])
+        requires { (link ≤ most_path_rows) × (length marks.old ≡ most_rows) }
+        ensures { Narrowed self.now.edition self.now.table.now self.now.literals.now (tree self.now.path.now link) marks.old marks.new }
+    {
+        if link == 0 {
+            return;
+        }
+        let n = row_count(self.table);
+        let mut states = [2u16; MOST_ROWS];
+        settle(&mut states, marks, n, 2);
+        self.thin(link, &mut states);
+        retain(&states, 2, marks, n);
     }
-    let top = held - 1;
-    let op = field_at(path, top, 0);
-    if op == 23 {
-        let k = tally(edition, table, path, literals, held, 0);
-        settle_all(states, row_count(table), active, below(0, k));
-        return;
-    }
-    let steps = first_link(path, top);
-    if counts(path, steps) {
-        decide_each(edition, table, path, literals, link, active, states);
-        return;
-    }
-    decide_back(edition, table, path, literals, steps, active, states);
-}
 
-// Decides the truth that a link names for the rows whose state is active: it stays where the truth holds, and becomes one
-// more where it does not.
-#[cycle(selection)]
-fn decide(
-    edition: usize,
-    table: &[u32],
-    path: &[u32],
-    literals: &[f64],
-    link: usize,
-    active: u16,
-    states: &mut [u16],
-)
-    requires { (Ready table.now link) × (((active + 2 * link ≤ 1000) × (length states.old ≡ most_rows)) × (Bounded (rows table.now) active states.old)) }
-    ensures { Sieved (true_at edition table.now literals.now (tree path.now link)) active (rows table.now) states.old states.new }
-{
-    if link == 0 {
-        decide_each(edition, table, path, literals, link, active, states);
-        return;
+    // Takes one step that does not count from all marked nodes at once.
+    #[cycle(selection)]
+    fn stride(&self, step: Step, marks: &mut [bool])
+        requires { (step.predicates ≤ most_path_rows) × (length marks.old ≡ most_rows) × (turning.counting (tree self.now.path.now step.predicates) ≡ false) }
+        ensures { listed self.now.table.now marks.new ≡ Meaning.union self.now.table.now (step_to self.now.edition self.now.table.now self.now.literals.now self.now.path.now step.predicates step.axis step.test) (listed self.now.table.now marks.old) }
+    {
+        reach(self.table, step.axis, marks);
+        sift(self.edition, self.table, step.axis, step.test, marks);
+        self.narrow(step.predicates, marks);
     }
-    let op = field_at(path, link - 1, 0);
-    match op {
-        16 => decide_pair(edition, table, path, literals, link, false, active, states),
-        17 => decide_pair(edition, table, path, literals, link, true, active, states),
-        18 => decide_not(edition, table, path, literals, link, active, states),
-        20 => decide_path(edition, table, path, literals, link, active, states),
-        _ => decide_each(edition, table, path, literals, link, active, states),
-    }
-}
 
-// Of the rows that are active at the first level those stay so at which the predicates of the chain that a link names hold,
-// whatever their position: what the predicates before it left out, state 3, is left out of its own truth.
-#[cycle(selection)]
-fn thin(
-    edition: usize,
-    table: &[u32],
-    path: &[u32],
-    literals: &[f64],
-    link: usize,
-    states: &mut [u16],
-)
-    requires { (Ready table.now link) × ((length states.old ≡ most_rows) × (Bounded (rows table.now) 3 states.old)) }
-    ensures { Thinned edition table.now literals.now (tree path.now link) states.old states.new × Bounded (rows table.now) 3 states.new }
-{
-    if link == 0 {
-        return;
+    // Takes the chain of steps that a link names from the marked nodes, the first of them first, and marks what it reaches.
+    #[cycle(selection)]
+    fn walk(&self, link: usize, marks: &mut [bool])
+        requires { (link ≤ most_path_rows) × (length marks.old ≡ most_rows) }
+        ensures { listed self.now.table.now marks.new ≡ Meaning.walk self.now.edition self.now.table.now self.now.literals.now (tree self.now.path.now link) (listed self.now.table.now marks.old) }
+    {
+        if link == 0 {
+            return;
+        }
+        let last = link - 1;
+        let before = first_link(self.path, last);
+        self.walk(before, marks);
+        let step = step_at(self.path, last);
+        if counting(self.path, step.predicates) {
+            self.step(step, marks);
+            return;
+        }
+        self.stride(step, marks);
     }
-    let row = link - 1;
-    let before = first_link(path, row);
-    thin(edition, table, path, literals, before, states);
-    let held = second_link(path, row);
-    put_out(states, row_count(table));
-    decide(edition, table, path, literals, held, 2, states);
-}
 
-// Of the marked nodes those stay marked at which the predicates of the chain that a link names hold, whatever their position.
-#[cycle(selection)]
-fn narrow(
-    edition: usize,
-    table: &[u32],
-    path: &[u32],
-    literals: &[f64],
-    link: usize,
-    marks: &mut [bool],
-)
-    requires { (Ready table.now link) × (length marks.old ≡ most_rows) }
-    ensures { Narrowed edition table.now literals.now (tree path.now link) marks.old marks.new }
-{
-    if link == 0 {
-        return;
+    // Marks what the path that a link names selects from a node, where nothing is marked yet.
+    #[cycle(selection)]
+    pub fn select(&self, link: usize, start: usize, marks: &mut [bool])
+        requires { (link ≤ most_path_rows) × (length marks.old ≡ most_rows) × ((y : ℕ) → get_or marks.old y false ≡ false) }
+        ensures { listed self.now.table.now marks.new ≡ Meaning.select self.now.edition self.now.table.now self.now.literals.now (tree self.now.path.now link) start }
+    {
+        if link == 0 {
+            return;
+        }
+        let top = link - 1;
+        start_mark(self.table, field_at(self.path, top, 0), start, marks);
+        let steps = first_link(self.path, top);
+        self.walk(steps, marks);
     }
-    let n = row_count(table);
-    let mut states = [2u16; MOST_ROWS];
-    settle(&mut states, marks, n, 2);
-    thin(edition, table, path, literals, link, &mut states);
-    retain(&states, 2, marks, n);
-}
 
-// Takes one step that does not count from all marked nodes at once.
-#[cycle(selection)]
-fn stride(
-    edition: usize,
-    table: &[u32],
-    path: &[u32],
-    literals: &[f64],
-    link: usize,
-    axis: usize,
-    test: usize,
-    marks: &mut [bool],
-)
-    requires { (Ready table.now link) × ((length marks.old ≡ most_rows) × (turning.counting (tree path.now link) ≡ false)) }
-    ensures { listed table.now marks.new ≡ Meaning.union table.now (step_to edition table.now literals.now path.now link axis test) (listed table.now marks.old) }
-{
-    reach(table, axis, marks);
-    sift(edition, table, axis, test, marks);
-    narrow(edition, table, path, literals, link, marks);
-}
-
-// Takes the chain of steps that a link names from the marked nodes, the first of them first, and marks what it reaches.
-#[cycle(selection)]
-fn walk(
-    edition: usize,
-    table: &[u32],
-    path: &[u32],
-    literals: &[f64],
-    link: usize,
-    marks: &mut [bool],
-)
-    requires { (Ready table.now link) × (length marks.old ≡ most_rows) }
-    ensures { listed table.now marks.new ≡ Meaning.walk edition table.now literals.now (tree path.now link) (listed table.now marks.old) }
-{
-    if link == 0 {
-        return;
+    // How many nodes the path that a link names selects from a node.
+    #[cycle(selection)]
+    fn tally(&self, link: usize, start: usize) -> usize
+        requires { link ≤ most_path_rows }
+        ensures { (result ≡ length (Meaning.select self.now.edition self.now.table.now self.now.literals.now (tree self.now.path.now link) start)) × (result ≤ most_rows) }
+    {
+        let mut marks = [false; MOST_ROWS];
+        self.select(link, start, &mut marks);
+        count_marks(self.table, &marks)
     }
-    let last = link - 1;
-    let before = first_link(path, last);
-    walk(edition, table, path, literals, before, marks);
-    let tests = second_link(path, last);
-    let axis = index_or_axis(path, last);
-    let test = test_at(path, last);
-    if counting(path, tests) {
-        step(edition, table, path, literals, tests, axis, test, marks);
-        return;
-    }
-    stride(edition, table, path, literals, tests, axis, test, marks);
-}
-
-// Marks what the path that a link names selects from a node, where nothing is marked yet.
-#[cycle(selection)]
-pub fn select(
-    edition: usize,
-    table: &[u32],
-    path: &[u32],
-    literals: &[f64],
-    link: usize,
-    start: usize,
-    marks: &mut [bool],
-)
-    requires { (Ready table.now link) × ((length marks.old ≡ most_rows) × (((y : ℕ) → get_or marks.old y false ≡ false))) }
-    ensures { listed table.now marks.new ≡ Meaning.select edition table.now literals.now (tree path.now link) start }
-{
-    if link == 0 {
-        return;
-    }
-    let top = link - 1;
-    start_mark(table, field_at(path, top, 0), start, marks);
-    let steps = first_link(path, top);
-    walk(edition, table, path, literals, steps, marks);
-}
-
-// How many nodes the path that a link names selects from a node.
-#[cycle(selection)]
-fn tally(
-    edition: usize,
-    table: &[u32],
-    path: &[u32],
-    literals: &[f64],
-    link: usize,
-    start: usize,
-) -> usize
-    requires { Ready table.now link }
-    ensures { (result ≡ length (Meaning.select edition table.now literals.now (tree path.now link) start)) × (result ≤ most_rows) }
-{
-    let mut marks = [false; MOST_ROWS];
-    select(edition, table, path, literals, link, start, &mut marks);
-    count_marks(table, &marks)
 }

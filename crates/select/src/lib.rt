@@ -3,13 +3,14 @@
 #![tactic(auto)]
 
 mod cycle;
+mod evaluation;
 
 ghost use Rattle.std.specs.Prelude.{◌≡◌, true, ◌<◌};
 ghost use Rattle.meaning.specs.Answers.{is_edition, table_answer, path_answer};
 ghost use Rattle.meaning.specs.Promises.{EvaluatesPath};
 
 use basics::{either, given, same, wide};
-use cycle::select;
+use evaluation::Evaluation;
 use marks::give_marks;
 use meaning::{Answer, MOST_ROWS};
 use path_check::check_path;
@@ -40,15 +41,13 @@ fn evaluate_accepted(
         return given(7, start);
     }
     let mut marks = [false; MOST_ROWS];
-    select(
+    let evaluation = Evaluation {
         edition,
         table,
         path,
         literals,
-        path::row_count(path),
-        start,
-        &mut marks,
-    );
+    };
+    evaluation.select(path::row_count(path), start, &mut marks);
     give_marks(table, &marks, out)
 }
 

@@ -14,9 +14,13 @@ pub returns-then-row_count-start : goal.returns-then-row_count-start
 returns-then-row_count-start c =
     start_refused _ _ _ _ _ _ c.requires.1 c.requires.2 c.requires.3 _ (omega arith) c.given.ensures
 
+pub invariant_of-evaluation : goal.invariant_of-evaluation
+invariant_of-evaluation c =
+    record { small = table_fits _ c.requires.2; rooted = accepted_rooted _ (table_accepted _ c.requires.2) }
+
 pub select-requires : goal.select-requires
 select-requires c =
-    (record { small = table_fits _ c.requires.2; low = rw c.row_count-2.ensures (path_fits _ _ c.requires.3); parents = accepted_rooted _ (table_accepted _ c.requires.2) }, (refl, no_marks most_rows))
+    (rw c.row_count-2.ensures (path_fits _ _ c.requires.3), refl, no_marks most_rows)
 
 pub give_marks-requires : goal.give_marks-requires
 give_marks-requires c =

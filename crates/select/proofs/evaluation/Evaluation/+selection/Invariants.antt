@@ -11,7 +11,7 @@ use Rattle.meaning.specs.Tree.{tree}
 use Rattle.sieve.specs.Sieve.{SievedTo}
 use lib.ListN.{length}
 use mathlib.Core.Path.{◌≡◌}
-use Rattle.select.proofs.cycle.+selection.Given as goal
+use Rattle.select.proofs.evaluation.Evaluation.+selection.Given as goal
 
 abbrev pub decreases-back : goal.decreases-back
 decreases-back l = 4 * l.link
@@ -47,16 +47,16 @@ abbrev pub decreases-select : goal.decreases-select
 decreases-select l = 4 * l.link
 
 abbrev pub decreases-spread : goal.decreases-spread
-decreases-spread l = 4 * l.link + 1
+decreases-spread l = 4 * l.step.predicates + 1
 
 abbrev pub decreases-step : goal.decreases-step
-decreases-step l = 4 * l.link + 2
+decreases-step l = 4 * l.step.predicates + 2
 
 abbrev pub decreases-step_back : goal.decreases-step_back
-decreases-step_back l = 4 * l.link + 2
+decreases-step_back l = 4 * l.step.predicates + 2
 
 abbrev pub decreases-stride : goal.decreases-stride
-decreases-stride l = 4 * l.link + 2
+decreases-stride l = 4 * l.step.predicates + 2
 
 abbrev pub decreases-tally : goal.decreases-tally
 decreases-tally l = 4 * l.link + 1
@@ -67,29 +67,22 @@ decreases-thin l = 4 * l.link
 abbrev pub decreases-walk : goal.decreases-walk
 decreases-walk l = 4 * l.link
 
-abbrev pub invariant-decide_each-loop-i : goal.invariant-decide_each-loop-i
-invariant-decide_each-loop-i l =
-    (l.i ≤ l.n) × (l.n ≡ rows l.table) × (length l.states ≡ length l.initial.states) × SievedTo (true_at l.edition l.table l.literals (tree l.path l.link)) l.active l.i l.n l.initial.states l.states
-
-abbrev pub decreases-decide_each-loop-i : goal.decreases-decide_each-loop-i
-decreases-decide_each-loop-i l = l.n - l.i
+abbrev pub invariant-decide_each-loop-node : goal.invariant-decide_each-loop-node
+invariant-decide_each-loop-node l =
+    (l.n ≡ rows l.self.table.now)
+    × (length l.states ≡ length l.initial.states)
+    × SievedTo (true_at l.self.edition l.self.table.now l.self.literals.now (tree l.self.path.now l.link)) l.active l.node l.n l.initial.states l.states
 
 abbrev pub invariant-keep-loop-i : goal.invariant-keep-loop-i
 invariant-keep-loop-i l =
-    (l.m ≤ l.i) × (l.i ≤ l.k) × (length l.list ≡ most_rows) × Kept (kept_by l.edition l.table l.literals l.path l.test l.k) l.k l.initial.list l.list l.m l.i
-
-abbrev pub decreases-keep-loop-i : goal.decreases-keep-loop-i
-decreases-keep-loop-i l = l.k - l.i
+    (l.m ≤ l.i)
+    × (length l.list ≡ most_rows)
+    × Kept (kept_by l.self.edition l.self.table.now l.self.literals.now l.self.path.now l.test l.k) l.k l.initial.list l.list l.m l.i
 
 abbrev pub invariant-step-loop-x : goal.invariant-step-loop-x
 invariant-step-loop-x l =
-    (l.x ≤ l.n)
-    × (l.n ≡ rows l.table)
-    × (rows l.table ≤ most_rows)
+    (l.n ≡ rows l.self.table.now)
     × (length l.marks ≡ most_rows)
     × (length l.next ≡ most_rows)
     × (length l.list ≡ most_rows)
-    × Reached (step_to l.edition l.table l.literals l.path l.link l.axis l.test) l.marks l.x l.next
-
-abbrev pub decreases-step-loop-x : goal.decreases-step-loop-x
-decreases-step-loop-x l = l.n - l.x
+    × Reached (step_to l.self.edition l.self.table.now l.self.literals.now l.self.path.now l.step.predicates l.step.axis l.step.test) l.marks l.x l.next
