@@ -1,27 +1,34 @@
 // A set of nodes as marks: mark y says whether node y is in the set. Lists of nodes are the marked rows, ascending.
 #![tactic(auto)]
 
-ghost use Rattle.std.specs.Prelude.{◌≡◌, false, ◌||◌, ◌++◌, ℕ, ◌<◌, ◌≤◌, length, get_or, take, drop};
+ghost use Rattle.std.specs.Prelude.{◌≡◌, false, cond, ◌||◌, ◌++◌, ℕ, ◌<◌, ◌≤◌, length, get_or, take, drop};
 ghost use Rattle.meaning.specs.Lists.{has};
 ghost use Rattle.meaning.specs.Table.{rows, most_rows};
-ghost use Rattle.meaning.specs.Rows.{op_of};
-ghost use Rattle.meaning.specs.Meaning.{start_of};
-ghost use Rattle.meaning.specs.Answers.{handed, output};
+ghost use Rattle.meaning.specs.Meaning.{start_of, is_absolute};
+ghost use Rattle.meaning.specs.Answers.{told, handed, output};
 ghost use Rattle.meaning.proofs.Marks.{listed};
 ghost use Rattle.marks.specs.Sets.{Sifted, Met, Joined};
 
 use axes::{in_second, passes_test, principal};
-use basics::{both, either, given};
-use meaning::Answer;
+use meaning::{Axis, Op, Refusal, Test};
+use sieve::each;
 use table::row_count;
 
+// The row that a path of this op starts from: row 0 where it is absolute, else the one given.
+#[tactic(auto, unfolding(meaning::specs::Meaning::is_absolute, meaning::specs::Rows::code))]
+fn start_row(op: Op, start: usize) -> usize
+    ensures { result ≡ cond (is_absolute op) 0 start }
+{
+    if op == Op::Absolute { 0 } else { start }
+}
+
 // Marks the start of a path of this op, where nothing is marked yet.
-pub fn start_mark(table: &[u32], op: usize, start: usize, marks: &mut [bool])
+pub fn start_mark(table: &[u32], op: Op, start: usize, marks: &mut [bool])
     requires room { rows table.now ≤ length marks.old }
     requires unmarked { (y : ℕ) → get_or marks.old y false ≡ false }
-    ensures { listed table.now marks.new ≡ start_of table.now (op_of op) start }
+    ensures { listed table.now marks.new ≡ start_of table.now op start }
 {
-    let x = if op == 23 { 0 } else { start };
+    let x = start_row(op, start);
     if x < marks.len() {
         marks[x] = true;
     }
@@ -32,13 +39,11 @@ pub fn add_marks(list: &[u16], n: usize, marks: &mut [bool])
     requires { n ≤ length list.now }
     ensures { (y : ℕ) → y < length marks.old → get_or marks.new y false ≡ (get_or marks.old y false || has (take n list.now) y) }
 {
-    let mut i = 0;
-    while i < n {
-        let y = list[i] as usize;
+    for node in &list[..n] {
+        let y = *node as usize;
         if y < marks.len() {
             marks[y] = true;
         }
-        i += 1;
     }
 }
 
@@ -48,28 +53,25 @@ pub fn copy_marks(table: &[u32], from: &[bool], to: &mut [bool])
     ensures { listed table.now to.new ≡ listed table.now from.now }
 {
     let n = row_count(table);
-    let mut i = 0;
-    while i < n {
-        to[i] = from[i];
-        i += 1;
-    }
+    to[..n].copy_from_slice(&from[..n]);
 }
 
-// Of the marked rows those stay marked that pass, in an edition, the test of a step on this axis. Every row passes test 0.
-pub fn sift(edition: usize, table: &[u32], axis: usize, test: usize, marks: &mut [bool])
+// Of the marked rows those stay marked that pass, in an edition, the test of a step on this axis.
+pub fn sift(edition: usize, table: &[u32], axis: Axis, test: Test, marks: &mut [bool])
     requires { (rows table.now ≤ most_rows) × (rows table.now ≤ length marks.old) }
     ensures { Sifted edition table.now axis test marks.old marks.new }
 {
-    let read = in_second(edition, test);
-    if read == 0 {
-        return;
-    }
-    let kind = principal(axis);
-    let n = row_count(table);
-    let mut i = 0;
-    while i < n {
-        marks[i] = both(marks[i], passes_test(table, kind, read, i));
-        i += 1;
+    match in_second(edition, test) {
+        // Every row passes it.
+        Test::AnyNode => {}
+        read => {
+            let kind = principal(axis);
+            each(
+                marks,
+                row_count(table),
+                |y, marked| marked && passes_test(table, kind, read, y),
+            );
+        }
     }
 }
 
@@ -78,12 +80,7 @@ pub fn meet(table: &[u32], others: &[bool], marks: &mut [bool])
     requires { (rows table.now ≤ length others.now) × (rows table.now ≤ length marks.old) }
     ensures { Met table.now others.now marks.old marks.new }
 {
-    let n = row_count(table);
-    let mut i = 0;
-    while i < n {
-        marks[i] = both(marks[i], others[i]);
-        i += 1;
-    }
+    each(marks, row_count(table), |y, marked| marked && others[y]);
 }
 
 // The rows that are marked in the other set are marked too.
@@ -91,28 +88,16 @@ pub fn join(table: &[u32], others: &[bool], marks: &mut [bool])
     requires { (rows table.now ≤ length others.now) × (rows table.now ≤ length marks.old) }
     ensures { Joined table.now others.now marks.old marks.new }
 {
-    let n = row_count(table);
-    let mut i = 0;
-    while i < n {
-        marks[i] = either(marks[i], others[i]);
-        i += 1;
-    }
+    each(marks, row_count(table), |y, marked| marked || others[y]);
 }
 
+// How many rows are marked.
 pub fn count_marks(table: &[u32], marks: &[bool]) -> usize
     requires { rows table.now ≤ length marks.now }
     ensures { (result ≡ length (listed table.now marks.now)) × (result ≤ rows table.now) }
 {
     let n = row_count(table);
-    let mut m = 0;
-    let mut i = 0;
-    while i < n {
-        if marks[i] {
-            m += 1;
-        }
-        i += 1;
-    }
-    m
+    marks[..n].iter().filter(|marked| **marked).count()
 }
 
 // Writes the marked rows, ascending, at the front of a list that has room for them; the rest stays.
@@ -122,26 +107,23 @@ fn list_marks(table: &[u32], marks: &[bool], list: &mut [u32])
 {
     let n = row_count(table);
     let mut m = 0;
-    let mut y = 0;
-    while y < n {
-        if marks[y] {
-            let node = y as u32;
-            list[m] = node;
+    for (y, marked) in marks[..n].iter().enumerate() {
+        if *marked {
+            list[m] = y as u32;
             m += 1;
         }
-        y += 1;
     }
 }
 
-// Gives the marked rows: 8 where the output has no room for them, else 0 with them at its front; the place is how many they are.
-pub fn give_marks(table: &[u32], marks: &[bool], out: &mut [u32]) -> Answer
+// Gives how many rows are marked, and they stand at the front of the output, or refuses where it has no room for them.
+pub fn give_marks(table: &[u32], marks: &[bool], out: &mut [u32]) -> Result<u32, Refusal>
     requires { (rows table.now ≤ most_rows) × (rows table.now ≤ length marks.now) }
-    ensures { (result ≡ handed (listed table.now marks.now) (length out.old)) × (out.new ≡ output result (listed table.now marks.now) out.old) }
+    ensures { (told result ≡ handed (listed table.now marks.now) (length out.old)) × (out.new ≡ output (told result) (listed table.now marks.now) out.old) }
 {
     let n = count_marks(table, marks);
     if out.len() < n {
-        return given(8, n);
+        return Err(Refusal::NoRoom(n as u32));
     }
     list_marks(table, marks, out);
-    given(0, n)
+    Ok(n as u32)
 }

@@ -1,21 +1,19 @@
--- The answers of `marks::add_marks`: what its code leaves to show, by the invariants beside this file. Assumes nothing.
-use mathlib.Core.Path.{refl, ap, ◌∙◌}
-use native.Mathlib.Omega.{arith}
-use borrow.Author.Rules.{rules}
-use lib.ListN.{length, length-set}
+-- The answers of `marks::add_marks`: what its code leaves to show, by the invariant beside this file. Assumes nothing.
+use Rattle.std.proofs.Common.{arith, ◌<◌}
+use Rattle.std.proofs.lemmas.List.{get_or-take, length-take-le}
 use Rattle.meaning.proofs.Marks.{added_start, added_more, added_skip, added_done}
 use Rattle.marks.proofs.add_marks.Goals as goal
 use Rattle.marks.proofs.add_marks.Goals.{then-y-marks, else-y-marks}
 
-pub loop-i-init : goal.loop-i-init
-loop-i-init c = (search rules, refl, added_start _ _)
+pub loop-node-init : goal.loop-node-init
+loop-node-init c = added_start _ _
 
-pub overflow_cast-y : goal.overflow_cast-y
-overflow_cast-y c = omega (arith, c.shared_slice_known-1.given c.loop-i.i)
-
-pub loop-i-preserved : goal.loop-i-preserved
-loop-i-preserved c =
-    elim c.if-y-marks.branch [ then-y-marks w ↦ (omega arith, ap length w.marks-is ∙ simp length-set c.loop-i.invariant.1, rw w.marks-is (added_more _ _ _ _ _ c.loop-i.invariant.2 (omega arith) refl w.if-y-marks.true)) | else-y-marks w ↦ (omega arith, ap length w.marks-is ∙ c.loop-i.invariant.1, rw w.marks-is (added_skip _ _ _ _ _ c.loop-i.invariant.2 (omega arith) refl c.loop-i.invariant.1 w.if-y-marks.false)) ]
+pub loop-node-preserved : goal.loop-node-preserved
+loop-node-preserved c =
+    let room = length-take-le c.args.n c.args.list.now c.requires in
+    let row : c.loop-node.node-index < c.args.n = omega (arith, room) in
+    let y = get_or-take c.args.n c.args.list.now c.loop-node.node-index 0 row in
+    elim c.if-y-marks.branch [ then-y-marks w ↦ rw w.marks-is (added_more _ _ _ _ _ c.loop-node.invariant (omega (arith, row, c.requires)) y w.if-y-marks.true) | else-y-marks w ↦ rw w.marks-is (added_skip _ _ _ _ _ c.loop-node.invariant (omega (arith, row, c.requires)) y c.loop-node.auto.marks w.if-y-marks.false) ]
 
 pub returns : goal.returns
-returns c = added_done _ _ _ _ c.args.n c.loop-i.invariant.2 (omega arith)
+returns c = added_done _ _ _ _ c.args.n c.loop-node.invariant (omega (arith, length-take-le c.args.n c.args.list.now c.requires))

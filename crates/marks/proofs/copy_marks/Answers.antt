@@ -1,18 +1,18 @@
--- The answers of `marks::copy_marks`: what its code leaves to show, by the invariants beside this file. Assumes nothing.
-use mathlib.Core.Path.{refl}
-use lib.ListN.{length-set}
-use native.Mathlib.Omega.{arith}
-use Rattle.meaning.proofs.Marks.{listed, wrote_start, wrote_more, wrote_listed}
+-- `marks::copy_marks` meets its contract: the rows come first in both sets.
+-- Assumes nothing.
+use Rattle.std.proofs.Common.{◌<◌, false, arith, length, drop}
+use Rattle.std.proofs.lemmas.List.{get_or_append_left, get_or-take, length-take-le}
+use Rattle.meaning.proofs.Marks.{listed, listed_by}
 use Rattle.marks.proofs.copy_marks.Goals as goal
-
-pub loop-i-init : goal.loop-i-init
-loop-i-init c = (omega arith, c.row_count-n.ensures, refl, wrote_start _ _)
-
-pub loop-i-preserved : goal.loop-i-preserved
-loop-i-preserved c =
-    let inv = c.loop-i.invariant in
-    (omega arith, inv.1, simp length-set inv.2, wrote_more _ _ _ _ _ inv.3 (omega arith) refl)
 
 pub returns : goal.returns
 unfolding listed
-returns c = wrote_listed _ _ _ c.args.table.now _ c.loop-i.invariant.3 (omega arith)
+returns c =
+    let n = c.row_count-n.result in
+    let to = c.copy_from_slice.new.self in
+    let copied = c.copy_from_slice.ensures.after in
+    let all = length-take-le n c.args.to.now (omega (arith, c.requires, c.row_count-n.ensures)) in
+    listed_by _ _ _ (λ y l.
+    let low : y < n = omega (arith, c.row_count-n.ensures) in
+    let there : y < length to = omega (arith, all, c.copy_from_slice.ensures.len) in
+    rw (get_or_append_left to (drop n c.args.to.now) false y there, copied, get_or-take n c.args.from.now y false low))

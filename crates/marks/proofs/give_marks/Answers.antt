@@ -1,17 +1,14 @@
--- `marks::give_marks` meets its contract: the answer is that of its check, and what is listed is what is marked.
+-- `marks::give_marks` meets its contract: the outcome is that of its check, and what is listed is what is marked.
 -- Assumes nothing.
+use Rattle.std.proofs.Common.{refl}
 use borrow.Author.Tests.{lt-ltb, le-ltb}
 use Rattle.meaning.specs.Answers.{output}
 use Rattle.marks.proofs.give_marks.Goals as goal
 
 pub returns-then-out-n : goal.returns-then-out-n
 unfolding output
-returns-then-out-n c =
-    let count = c.count_marks-n.ensures.0 in
-    (rw (← count, lt-ltb _ _ c.if-out-n.true) c.given.ensures, rw c.given.ensures)
+returns-then-out-n c = rw (← c.count_marks-n.ensures.0, lt-ltb _ _ c.if-out-n.true) (refl, refl)
 
 pub returns : goal.returns
 unfolding output
-returns c =
-    let count = c.count_marks-n.ensures.0 in
-    (rw (← count, le-ltb _ _ c.if-out-n.false) c.given-2.ensures, rw c.given-2.ensures c.list_marks.ensures)
+returns c = rw (← c.count_marks-n.ensures.0, le-ltb _ _ c.if-out-n.false) (refl, rw c.count_marks-n.ensures.0 c.list_marks.ensures)

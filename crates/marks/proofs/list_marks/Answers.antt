@@ -1,42 +1,40 @@
--- The answers of `marks::list_marks`: what its code leaves to show, by the invariants beside this file. Assumes nothing.
-use mathlib.Core.Path.{refl, ap, ◌∙◌}
-use native.Mathlib.Omega.{arith}
-use lib.ListN.{length, length-set}
+-- The answers of `marks::list_marks`: what its code leaves to show, by the invariant beside this file. Assumes nothing.
+use Rattle.std.proofs.Common.{◌≡◌, ◌∙◌, sym, ℕ, ◌<◌, ◌≤◌, Bool, false, List, length, get_or, take, arith}
+use Rattle.std.proofs.lemmas.List.{get_or-take, length-take-le}
 use Rattle.meaning.proofs.Marks.{counted_start, counted_more, counted_skip, counted_room, listing_start, listing_more, listing_skip, listing_done}
 use Rattle.marks.proofs.list_marks.Goals as goal
-use Rattle.marks.proofs.list_marks.Goals.{then-marks-y, else-marks-y}
+use Rattle.marks.proofs.list_marks.Goals.{then-marked, else-marked}
+
+-- a mark of the rows is a mark of the set
+mark_of_row : (marks : List Bool) (n y : ℕ) (b : Bool) → n ≤ length marks → y < length (take n marks) → get_or (take n marks) y false ≡ b → get_or marks y false ≡ b
+mark_of_row marks n y b room l e =
+    let low : y < n = omega (arith, length-take-le n marks room) in
+    sym (get_or-take n marks y false low) ∙ e
 
 pub loop-y-init : goal.loop-y-init
-loop-y-init c = (omega arith, omega arith, c.row_count-n.ensures, refl, counted_start _, listing_start _ _)
+loop-y-init c = (omega arith, counted_start _, listing_start _ _)
 
 pub bounds-list-m : goal.bounds-list-m
 bounds-list-m c =
-    let inv = c.loop-y.invariant in
-    counted_room _ c.args.table.now _ _ _ inv.4 c.if-marks-y.true (omega arith) (omega (arith, c.requires))
+    let room : c.row_count-n.result ≤ length c.args.marks.now = omega (arith, c.requires, c.row_count-n.ensures) in
+    let here = mark_of_row _ _ _ _ room c.loop-y-test.true c.if-marked.true in
+    counted_room _ c.args.table.now _ _ _ c.loop-y.invariant.1 here (omega (arith, length-take-le _ _ room, c.row_count-n.ensures)) (omega (arith, c.requires, c.loop-y.auto.list))
 
 pub loop-y-preserved : goal.loop-y-preserved
 loop-y-preserved c =
+    let room : c.row_count-n.result ≤ length c.args.marks.now = omega (arith, c.requires, c.row_count-n.ensures) in
     let inv = c.loop-y.invariant in
-    elim c.if-marks-y.branch [
-      | then-marks-y w ↦ (
-        omega arith,
-        omega arith,
-        inv.2,
-        ap length w.list-is ∙ simp length-set inv.3,
-        rw w.m-is (counted_more _ _ _ inv.4 w.if-marks-y.true),
-        rw (w.list-is, w.m-is) (listing_more _ _ _ _ _ inv.5 inv.4 w.if-marks-y.true (counted_room _ _ _ _ _ inv.4 w.if-marks-y.true (omega arith) c.requires.2)),
-      )
-      | else-marks-y w ↦ (
-        omega arith,
-        omega arith,
-        inv.2,
-        ap length w.list-is ∙ inv.3,
-        rw w.m-is (counted_skip _ _ _ inv.4 w.if-marks-y.false),
-        rw (w.list-is, w.m-is) (listing_skip _ _ _ _ _ inv.5 w.if-marks-y.false),
-      )
+    elim c.if-marked.branch [
+      | then-marked w ↦
+          let here = mark_of_row _ _ _ _ room c.loop-y-test.true w.if-marked.true in
+          let fits = counted_room _ c.args.table.now _ _ (length c.args.list.now) inv.1 here (omega (arith, length-take-le _ _ room, c.row_count-n.ensures)) (omega (arith, c.requires)) in
+          (omega arith, rw w.m-is (counted_more _ _ _ inv.1 here), rw (w.list-is, w.m-is) (listing_more _ _ _ _ _ inv.2 inv.1 here fits))
+      | else-marked w ↦
+          let here = mark_of_row _ _ _ _ room c.loop-y-test.true w.if-marked.false in
+          (omega arith, rw w.m-is (counted_skip _ _ _ inv.1 here), rw (w.list-is, w.m-is) (listing_skip _ _ _ _ _ inv.2 here))
     ]
 
 pub returns : goal.returns
 returns c =
-    let inv = c.loop-y.invariant in
-    listing_done _ _ _ _ _ _ inv.5 inv.4 (omega arith)
+    let room : c.row_count-n.result ≤ length c.args.marks.now = omega (arith, c.requires, c.row_count-n.ensures) in
+    listing_done _ _ c.args.table.now _ _ _ c.loop-y.invariant.2 c.loop-y.invariant.1 (omega (arith, length-take-le _ _ room, c.row_count-n.ensures))
