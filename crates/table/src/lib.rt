@@ -4,8 +4,39 @@
 
 ghost use Rattle.std.specs.Prelude.{◌≡◌, ◌<◌};
 ghost use Rattle.meaning.specs.Table.{rows, kind, is_attribute, name, parent_of, size, end};
+ghost use Rattle.table.specs.Kinds.{kind_of};
 
-use basics::{same, wide};
+use basics::wide;
+
+// What a node is: kinds 0 to 5, each at its number. Any other number is unknown.
+#[derive(Clone, Copy, PartialEq, Eq)]
+pub enum Kind {
+    Root,
+    Element,
+    Text,
+    Comment,
+    Instruction,
+    Attribute,
+    Unknown,
+}
+
+// The kind with a number.
+impl From<usize> for Kind {
+    ghost from_gives = { λ n k. k ≡ kind_of n };
+
+    #[tactic(auto, unfolding(crate::specs::Kinds::kind_of))]
+    fn from(number: usize) -> Self {
+        match number {
+            0 => Kind::Root,
+            1 => Kind::Element,
+            2 => Kind::Text,
+            3 => Kind::Comment,
+            4 => Kind::Instruction,
+            5 => Kind::Attribute,
+            _ => Kind::Unknown,
+        }
+    }
+}
 
 pub fn row_count(table: &[u32]) -> usize
     ensures { result ≡ rows table.now }
@@ -13,19 +44,29 @@ pub fn row_count(table: &[u32]) -> usize
     table.len() / 4
 }
 
-pub fn kind_at(table: &[u32], i: usize) -> usize
+// The number of row i's kind.
+pub fn kind_number_at(table: &[u32], i: usize) -> usize
     requires { i < rows table.now }
     ensures { (result ≡ kind table.now i) × (result < 4294967296) }
 {
     wide(table[4 * i])
 }
 
+// What row i is.
+pub fn kind_at(table: &[u32], i: usize) -> Kind
+    requires { i < rows table.now }
+    ensures { result ≡ kind_of (kind table.now i) }
+{
+    Kind::from(kind_number_at(table, i))
+}
+
 // Is row i an attribute?
+#[tactic(auto, using(crate::proofs::Numbers::same_kind))]
 pub fn is_attribute(table: &[u32], i: usize) -> bool
     requires { i < rows table.now }
     ensures { result ≡ is_attribute table.now i }
 {
-    same(kind_at(table, i), 5)
+    kind_at(table, i) == Kind::Attribute
 }
 
 pub fn name_at(table: &[u32], i: usize) -> usize

@@ -12,7 +12,7 @@ ghost use Rattle.table_check.specs.Names.{Seen, unlisted, stopped};
 
 use basics::{at_most, below, both, either, same};
 use meaning::{MOST_ROWS, Refusal};
-use table::{end_at, is_attribute, kind_at, name_at, parent_at, row_count, size_at};
+use table::{end_at, is_attribute, kind_number_at, name_at, parent_at, row_count, size_at};
 
 // The largest name.
 const MOST_NAME: usize = 65535;
@@ -36,7 +36,7 @@ fn first_element(table: &[u32]) -> usize
     let n = row_count(table);
     let mut i = 0;
     while i < n {
-        if kind_at(table, i) == 1 {
+        if kind_number_at(table, i) == 1 {
             return i;
         }
         i += 1;
@@ -49,7 +49,10 @@ fn good_root(table: &[u32], first: usize) -> bool
     requires { (0 < rows table.now) × (first ≡ first_element table.now) }
     ensures { result ≡ good_root table.now }
 {
-    let plain = both(same(kind_at(table, 0), 0), same(name_at(table, 0), 0));
+    let plain = both(
+        same(kind_number_at(table, 0), 0),
+        same(name_at(table, 0), 0),
+    );
     let placed = both(plain, same(parent_at(table, 0), 0));
     let n = row_count(table);
     let sized = both(placed, same(size_at(table, 0), n - 1));
@@ -87,7 +90,11 @@ fn well_placed(table: &[u32], i: usize, next: &[u16]) -> bool
     if i <= parent {
         return false;
     }
-    let sound = good_numbers(kind_at(table, i), name_at(table, i), size_at(table, i));
+    let sound = good_numbers(
+        kind_number_at(table, i),
+        name_at(table, i),
+        size_at(table, i),
+    );
     let inside = at_most(end_at(table, i), end_at(table, parent));
     let stands = same(next[parent] as usize, i);
     both(sound, both(stands, inside))
@@ -98,7 +105,10 @@ fn text_of_root(table: &[u32], i: usize) -> bool
     requires { i < rows table.now }
     ensures { result ≡ text_of_root table.now i }
 {
-    both(same(kind_at(table, i), 2), same(parent_at(table, i), 0))
+    both(
+        same(kind_number_at(table, i), 2),
+        same(parent_at(table, i), 0),
+    )
 }
 
 // Is row i an element child of the root after another? The table's first element is one, so every later one is.
@@ -106,7 +116,10 @@ fn later_element(table: &[u32], i: usize, first: usize) -> bool
     requires { Behind table.now i × (first ≡ first_element table.now) }
     ensures { result ≡ later_element table.now i }
 {
-    let of_root = both(same(kind_at(table, i), 1), same(parent_at(table, i), 0));
+    let of_root = both(
+        same(kind_number_at(table, i), 1),
+        same(parent_at(table, i), 0),
+    );
     both(of_root, below(first, i))
 }
 
@@ -115,11 +128,11 @@ fn text_after_text(table: &[u32], i: usize) -> bool
     requires { Behind table.now i × (good_parent table.now i ≡ true) }
     ensures { result ≡ text_after_text table.now i }
 {
-    if kind_at(table, i) != 2 {
+    if kind_number_at(table, i) != 2 {
         return false;
     }
     both(
-        same(kind_at(table, i - 1), 2),
+        same(kind_number_at(table, i - 1), 2),
         same(parent_at(table, i - 1), parent_at(table, i)),
     )
 }
@@ -129,7 +142,7 @@ fn among_attributes(table: &[u32], i: usize) -> bool
     requires { (0 < i) × (i < rows table.now) }
     ensures { result ≡ among_attributes table.now i }
 {
-    let kind = kind_at(table, i - 1);
+    let kind = kind_number_at(table, i - 1);
     let parent = parent_at(table, i);
     let first = both(same(kind, 1), same(parent, i - 1));
     let next = both(same(kind, 5), same(parent, parent_at(table, i - 1)));

@@ -5,4 +5,4 @@ use Rattle.table_check.proofs.text_of_root.Goals as goal
 
 pub returns : goal.returns
 unfolding text_of_root
-returns c = rw (c.same-2.ensures, c.parent_at.ensures.0, c.same.ensures, c.kind_at.ensures.0) at c.both.ensures
+returns c = rw (c.same-2.ensures, c.parent_at.ensures.0, c.same.ensures, c.kind_number_at.ensures.0) at c.both.ensures

@@ -23,4 +23,4 @@ unfolding good_row Next
 returns c =
     let parent = c.parent_at-parent in
     let below : parent_of c.args.table.now c.args.i < c.args.i = omega arith in
-    rw (c.both-2.ensures, c.both.ensures, c.same-stands.ensures, c.at_most-inside.ensures, c.end_at-2.ensures.0, c.end_at.ensures.0, c.good_numbers-sound.ensures, c.size_at.ensures.0, c.name_at.ensures.0, c.kind_at.ensures.0, parent.ensures.0, placed _ _ _ below (c.requires.known _ below))
+    rw (c.both-2.ensures, c.both.ensures, c.same-stands.ensures, c.at_most-inside.ensures, c.end_at-2.ensures.0, c.end_at.ensures.0, c.good_numbers-sound.ensures, c.size_at.ensures.0, c.name_at.ensures.0, c.kind_number_at.ensures.0, parent.ensures.0, placed _ _ _ below (c.requires.known _ below))
