@@ -31,19 +31,17 @@ marked m i l h =
 
 -- a row's links marked
 pub marks_more : (p : List ℕ) (r : ℕ) (m : List Bool) (a b : ℕ) → Marks p r m → a ≡ first_link p r → b ≡ second_link p r → a < length m → b < length m → Marks p (r + 1) (set (set m a true) b true)
-unfolding Marks links
+unfolding links
 marks_more p r m a b h e f k n l =
     let n' : b < length (set m a true) = rw (length-set m a true) n in
     rw (marked (set m a true) b l n', marked m a l k, h l, linked_more p r l, ← e, ← f) (or_assoc (linked_below p r l) (eqb a l) (eqb b l))
 
 -- no marks before the first row
 pub marks_start : (p : List ℕ) (n : ℕ) → Marks p 0 (replicate n false)
-unfolding Marks
 marks_start p n l = no_marks n l ∙ sym (linked_none p l)
 
 -- what a mark says
 pub marks_at : (p : List ℕ) (n : ℕ) (m : List Bool) → Marks p n m → (l : ℕ) → get_or m l false ≡ linked_below p n l
-unfolding Marks
 marks_at p n m h l = h l
 
 -- the marks after the last row

@@ -5,7 +5,7 @@ use Rattle.meaning.specs.Rows.{linked_below}
 use Rattle.meaning.specs.Tree.{tree, depth}
 
 -- the marks are those of the links that a row below n holds
-unfoldable pub Marks : List ℕ → ℕ → List Bool → Type 0
+abbrev pub Marks : List ℕ → ℕ → List Bool → Type 0
 Marks p n marks = (l : ℕ) → get_or marks l false ≡ linked_below p n l
 
 -- up to link n each link's depth stands at its number

@@ -1,17 +1,18 @@
 // The path checker (document 01, "Numbers given back", 3 to 6): linear passes over the rows, one for each thing looked for.
 #![tactic(auto)]
 
-ghost use Rattle.std.specs.Prelude.{◌≡◌, ◌+◌, ◌<◌, ◌≤◌, max, length, get_or, false};
+ghost use Rattle.std.specs.Prelude.{◌≡◌, ◌+◌, ◌<◌, ◌≤◌, length, MatchOption};
 ghost use Rattle.meaning.specs.Lists.{lowest};
 ghost use Rattle.meaning.specs.Rows.{rows_of, path_length_allowed, bad_literal, bad_literal_at, links_again, misplaced, broken_row};
 ghost use Rattle.meaning.specs.Tree.{tree, depth};
+ghost use Rattle.meaning.specs.Answers.{told};
 ghost use Rattle.meaning.specs.Promises.{ChecksPath};
-ghost use Rattle.path_check.specs.Passes.{Marks, Depths};
+ghost use Rattle.path_check.specs.Passes.{Depths};
 
-use basics::{at_most, below, both, either, same};
-use meaning::Answer;
+use links::{LINKS, Linked};
+use meaning::Refusal;
 use path::fields::{has_good_fields, is_path, is_unknown};
-use path::{field_at, first_link, row_count, second_link};
+use path::{first_link, op_at, row_count, second_link};
 
 const MOST_ROWS: usize = 256;
 
@@ -19,146 +20,94 @@ const MOST_LITERALS: usize = 64;
 
 const MOST_DEPTH: usize = 8;
 
-// The links of a path of the most rows, and 0 for no link.
-const LINKS: usize = 257;
-
+// Whole rows, 1 to 256 of them.
+#[tactic(auto, unfolding(meaning::specs::Rows::path_length_allowed))]
 fn is_length_allowed(path: &[u32]) -> bool
     ensures { result ≡ path_length_allowed path.now }
 {
     let rows = row_count(path);
-    both(
-        both(same(path.len() % 5, 0), at_most(1, rows)),
-        at_most(rows, MOST_ROWS),
-    )
+    path.len() % 5 == 0 && 1 <= rows && rows <= MOST_ROWS
 }
 
 // A NaN has no bits to look at, so it is told apart first.
+#[tactic(auto, unfolding(meaning::specs::Rows::bad_literal))]
 fn is_bad_literal(x: f64) -> bool
     ensures { result ≡ bad_literal x }
 {
-    if x != x {
-        true
-    } else {
-        let bits: u64 = f64::to_bits(x);
-        0x7FF0000000000000 <= bits
-    }
+    x.is_nan() || 0x7FF0000000000000 <= x.to_bits()
 }
 
 // The literal at an index; those past the 64th are not looked at.
+#[tactic(auto, unfolding(meaning::specs::Rows::bad_literal_at))]
 fn is_bad_literal_at(literals: &[f64], i: usize) -> bool
     requires { i < length literals.now }
     ensures { result ≡ bad_literal_at literals.now i }
 {
-    if MOST_LITERALS <= i {
-        true
-    } else {
-        is_bad_literal(literals[i])
-    }
+    MOST_LITERALS <= i || is_bad_literal(literals[i])
 }
 
-fn lowest_bad_literal(literals: &[f64]) -> usize
-    ensures { (result ≡ lowest (bad_literal_at literals.now) (length literals.now)) × (result ≤ 64) }
+// The first literal that is not allowed.
+fn lowest_bad_literal(literals: &[f64]) -> Option<usize>
+    ensures { MatchOption result (lowest (bad_literal_at literals.now) (length literals.now) ≡ length literals.now) (λ i. (i ≡ lowest (bad_literal_at literals.now) (length literals.now)) × (i < length literals.now) × (i ≤ 64)) }
 {
-    let mut i = 0;
-    while i < literals.len() {
+    for i in 0..literals.len() {
         if is_bad_literal_at(literals, i) {
-            return i;
+            return Some(i);
         }
-        i += 1;
     }
-    i
+    None
 }
 
-// Marks the links of one row more.
-fn mark_links(path: &[u32], row: usize, marks: &mut [bool])
-    requires { (row ≤ 256) × (row < length marks.old) × Marks path.now row marks.old }
-    ensures { Marks path.now (row + 1) marks.new }
+// Does the row behind these link a row that one of them, or its own earlier field, links?
+#[tactic(auto, unfolding(meaning::specs::Rows::links_again))]
+fn links_again(lower: &Linked) -> bool
+    ensures { result ≡ links_again lower.now.path.now lower.now.rows }
 {
-    let a = first_link(path, row);
-    let b = second_link(path, row);
-    marks[a] = true;
-    marks[b] = true;
+    let a = first_link(lower.path, lower.rows);
+    let b = second_link(lower.path, lower.rows);
+    let again = 0 < a && lower.holds(a);
+    again || (0 < b && (lower.holds(b) || a == b))
 }
 
-// Marks the links of all rows.
-fn mark_all_links(path: &[u32], marks: &mut [bool])
-    requires { (rows_of path.now ≤ 256) × (length marks.old ≡ 257) × Marks path.now 0 marks.old }
-    ensures { Marks path.now (rows_of path.now) marks.new }
+// Is a row the last and no path, or another that no row links?
+#[tactic(auto, unfolding(meaning::specs::Rows::misplaced))]
+fn is_misplaced(all: &Linked, row: usize) -> bool
+    requires { (all.now.rows ≡ rows_of all.now.path.now) × (row < all.now.rows) }
+    ensures { result ≡ misplaced all.now.path.now row }
 {
-    let rows = row_count(path);
-    let mut row = 0;
-    while row < rows {
-        mark_links(path, row, marks);
-        row += 1;
-    }
-}
-
-// Is a link marked?
-fn is_marked(marks: &[bool], l: usize) -> bool
-    ensures { result ≡ get_or marks.now l false }
-{
-    if l < marks.len() { marks[l] } else { false }
-}
-
-// Does the row link a row that a lower row, or its own earlier field, links?
-fn links_again(path: &[u32], row: usize, lower: &[bool]) -> bool
-    requires { (row ≤ 256) × Marks path.now row lower.now }
-    ensures { result ≡ links_again path.now row }
-{
-    let a = first_link(path, row);
-    let b = second_link(path, row);
-    let again = both(below(0, a), is_marked(lower, a));
-    let again_or_own = both(below(0, b), either(is_marked(lower, b), same(a, b)));
-    either(again, again_or_own)
-}
-
-// Is it the last row and no path, or another row that nothing links?
-fn is_misplaced(path: &[u32], row: usize, linked: &[bool]) -> bool
-    requires { (row ≤ 256) × Marks path.now (rows_of path.now) linked.now }
-    ensures { result ≡ misplaced path.now row }
-{
-    if row + 1 == row_count(path) {
-        !is_path(field_at(path, row, 0))
+    if row + 1 == all.rows {
+        !is_path(op_at(all.path, row))
     } else {
-        !is_marked(linked, row + 1)
+        !all.holds(row + 1)
     }
 }
 
-fn is_broken(path: &[u32], literals: usize, row: usize, linked: &[bool], lower: &[bool]) -> bool
-    requires { (row ≤ 256) × Marks path.now (rows_of path.now) linked.now × Marks path.now row lower.now }
-    ensures { result ≡ broken_row path.now literals row }
+// Is the row behind the lower ones broken?
+#[tactic(auto, unfolding(meaning::specs::Rows::broken_row))]
+fn is_broken(literals: usize, all: &Linked, lower: &Linked) -> bool
+    requires { (all.now.rows ≡ rows_of all.now.path.now) × (lower.now.rows < all.now.rows) × (lower.now.path.now ≡ all.now.path.now) }
+    ensures { result ≡ broken_row all.now.path.now literals lower.now.rows }
 {
-    let unknown = is_unknown(field_at(path, row, 0));
-    let bad_field = !has_good_fields(path, literals, row);
-    let again = links_again(path, row, lower);
-    let misplaced = is_misplaced(path, row, linked);
-    either(either(either(unknown, bad_field), again), misplaced)
+    is_unknown(op_at(lower.path, lower.rows))
+        || !has_good_fields(lower.path, literals, lower.rows)
+        || links_again(lower)
+        || is_misplaced(all, lower.rows)
 }
 
-// Goes upwards with the links of the lower rows marked.
-fn lowest_broken_row(path: &[u32], literals: usize) -> usize
+// The first broken row: goes upwards with the links of the lower rows marked, beside those of all.
+fn lowest_broken_row(path: &[u32], literals: usize) -> Option<usize>
     requires { rows_of path.now ≤ 256 }
-    ensures { (result ≡ lowest (broken_row path.now literals) (rows_of path.now)) × (result ≤ 256) }
+    ensures { MatchOption result (lowest (broken_row path.now literals) (rows_of path.now) ≡ rows_of path.now) (λ r. (r ≡ lowest (broken_row path.now literals) (rows_of path.now)) × (r < rows_of path.now)) }
 {
-    let rows = row_count(path);
-    let mut linked = [false; LINKS];
-    mark_all_links(path, &mut linked);
-    let mut lower = [false; LINKS];
-    let mut row = 0;
-    while row < rows {
-        if is_broken(path, literals, row, &linked, &lower) {
-            return row;
+    let all = Linked::by_all(path);
+    let mut lower = Linked::by_none(path);
+    for row in 0..row_count(path) {
+        if is_broken(literals, &all, &lower) {
+            return Some(row);
         }
-        mark_links(path, row, &mut lower);
-        row += 1;
+        lower.add_row();
     }
-    row
-}
-
-fn larger(a: usize, b: usize) -> usize
-    ensures { result ≡ max a b }
-{
-    if a < b { b } else { a }
+    None
 }
 
 // The depth of a row's tree from those of its links.
@@ -168,8 +117,8 @@ fn row_depth(path: &[u32], row: usize, depths: &[usize]) -> usize
 {
     let a = first_link(path, row);
     let b = second_link(path, row);
-    let inner = larger(depths[a], depths[b]);
-    if is_path(field_at(path, row, 0)) {
+    let inner = depths[a].max(depths[b]);
+    if is_path(op_at(path, row)) {
         inner + 1
     } else {
         inner
@@ -183,46 +132,29 @@ fn depth_of(path: &[u32]) -> usize
 {
     let rows = row_count(path);
     let mut depths = [0usize; LINKS];
-    let mut row = 0;
-    while row < rows {
+    for row in 0..rows {
         depths[row + 1] = row_depth(path, row, &depths);
-        row += 1;
     }
     depths[rows]
 }
 
-pub fn check_path(path: &[u32], literals: &[f64]) -> Answer
-    ensures { ChecksPath path.now literals.now result }
+// Is a path accepted, and of how many rows? The first check that applies refuses it.
+pub fn check_path(path: &[u32], literals: &[f64]) -> Result<u32, Refusal>
+    ensures { ChecksPath path.now literals.now (told result) }
 {
     if !is_length_allowed(path) {
-        return Answer {
-            number: 3,
-            place: 0,
-        };
+        return Err(Refusal::PathLength);
     }
-    let literal = lowest_bad_literal(literals);
-    if literal < literals.len() {
-        return Answer {
-            number: 4,
-            place: literal as u32,
-        };
+    if let Some(i) = lowest_bad_literal(literals) {
+        return Err(Refusal::BadLiteral(i as u32));
     }
-    let rows = row_count(path);
-    let row = lowest_broken_row(path, literals.len());
-    if row < rows {
-        return Answer {
-            number: 5,
-            place: row as u32,
-        };
+    if let Some(row) = lowest_broken_row(path, literals.len()) {
+        return Err(Refusal::BrokenPathRow(row as u32));
     }
     if MOST_DEPTH < depth_of(path) {
-        return Answer {
-            number: 6,
-            place: 0,
-        };
+        return Err(Refusal::TooDeep);
     }
-    Answer {
-        number: 0,
-        place: rows as u32,
-    }
+    Ok(row_count(path) as u32)
 }
+
+mod links;

@@ -1,2 +1,0 @@
-mod RowReads
-mod FieldKinds

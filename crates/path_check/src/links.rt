@@ -1,0 +1,62 @@
+// The links that the first rows of a path hold, as marks.
+ghost use Rattle.std.specs.Prelude.{◌≡◌, ◌+◌, ◌≤◌};
+ghost use Rattle.meaning.specs.Rows.{rows_of, linked_below};
+ghost use Rattle.path_check.specs.Passes.{Marks};
+
+use path::{first_link, row_count, second_link};
+
+// The links of a path of the most rows, and 0 for no link.
+pub const LINKS: usize = 257;
+
+// The links that some first rows of a path hold, each with its mark.
+#[derive(Drop)]
+pub struct Linked<'a> {
+    pub path: &'a [u32],
+    pub rows: usize,
+    marks: [bool; LINKS],
+    ghost marked: { Marks path.now rows marks },
+}
+
+impl<'a> Linked<'a> {
+    // Those of no row yet.
+    pub fn by_none(path: &'a [u32]) -> Self
+        ensures { (result.path.now ≡ path.now) × (result.rows ≡ 0) }
+    {
+        Linked {
+            path,
+            rows: 0,
+            marks: [false; LINKS],
+        }
+    }
+
+    // Those of all rows.
+    pub fn by_all(path: &'a [u32]) -> Self
+        requires { rows_of path.now ≤ 256 }
+        ensures { (result.path.now ≡ path.now) × (result.rows ≡ rows_of path.now) }
+    {
+        let mut all = Linked::by_none(path);
+        for _ in 0..row_count(path) {
+            all.add_row();
+        }
+        all
+    }
+
+    // Marks the links of one row more.
+    pub fn add_row(&mut self)
+        requires { self.old.rows ≤ 256 }
+        ensures { (self.new.path.now ≡ self.old.path.now) × (self.new.rows ≡ self.old.rows + 1) }
+    {
+        let a = first_link(self.path, self.rows);
+        let b = second_link(self.path, self.rows);
+        self.marks[a] = true;
+        self.marks[b] = true;
+        self.rows += 1;
+    }
+
+    // Does one of the rows hold this link?
+    pub fn holds(&self, l: usize) -> bool
+        ensures { result ≡ linked_below self.now.path.now self.now.rows l }
+    {
+        self.marks.get(l).copied().unwrap_or(false)
+    }
+}
