@@ -5,13 +5,11 @@ ghost use Rattle.std.specs.Prelude.{◌≡◌, false, ◌≤◌, get_or};
 ghost use Rattle.std.specs.Float.{nan};
 ghost use Rattle.std.specs.Float.Ieee.Exact.{HasValue};
 ghost use Rattle.meaning.specs.Table.{most_rows};
-ghost use Rattle.meaning.specs.Rows.{op_of};
 ghost use Rattle.meaning.specs.Meaning.{float, number_of, truth_of, applied};
 ghost use Rattle.meaning.specs.Meaning as Meaning;
 ghost use Rattle.meaning.proofs.Applied.{takes_first, takes_second, decides};
 
-use basics::{at_most, below, both, either, same};
-use meaning::{Context, Value};
+use meaning::{Context, Op, Value};
 use remainder::remainder;
 
 // A whole number as a double, exactly: no sign, and n over 1.
@@ -22,15 +20,17 @@ pub fn float_of(n: usize) -> f64
     (n as u32) as f64
 }
 
+// The number of a value, NaN of a truth.
 fn number_of(v: Value) -> f64
     ensures { result ≡ number_of v }
 {
     match v {
-        Value::Truth(_) => 0.0 / 0.0,
+        Value::Truth(_) => f64::NAN,
         Value::Number(x) => x,
     }
 }
 
+// The truth of a value; a number has none, and false stands for it.
 pub fn truth_of(v: Value) -> bool
     ensures { result ≡ truth_of v }
 {
@@ -50,49 +50,80 @@ pub fn keeps(v: Value, position: f64) -> bool
     }
 }
 
-// Neither zero nor NaN, which is the one number that differs from itself.
+// Neither zero nor NaN.
 fn nonzero(x: f64) -> bool
     ensures { result ≡ Meaning.nonzero x }
 {
-    both(x == x, x != 0.0)
+    !(x.is_nan() || x == 0.0)
 }
 
 // The literal at an index, or NaN past the end.
 fn literal_at(literals: &[f64], i: usize) -> f64
     ensures { result ≡ get_or literals.now i nan }
 {
-    if i < literals.len() {
-        literals[i]
-    } else {
-        0.0 / 0.0
-    }
+    literals.get(i).copied().unwrap_or(f64::NAN)
 }
 
-// Does the op take a first operand, and a second?
-pub fn takes_first(op: usize) -> bool
-    ensures { result ≡ takes_first (op_of op) }
+// Does the op take a first operand?
+#[tactic(auto, unfolding(meaning::proofs::Applied::takes_first, meaning::specs::Rows::code))]
+pub fn takes_first(op: Op) -> bool
+    ensures { result ≡ takes_first op }
 {
-    both(at_most(4, op), at_most(op, 19))
+    !matches!(
+        op,
+        Op::Unknown
+            | Op::Literal
+            | Op::Position
+            | Op::Last
+            | Op::Exists
+            | Op::Count
+            | Op::Relative
+            | Op::Absolute
+            | Op::Step
+            | Op::Predicate
+    )
 }
 
-pub fn takes_second(op: usize) -> bool
-    ensures { result ≡ takes_second (op_of op) }
+// Does it take a second?
+#[tactic(auto, unfolding(meaning::proofs::Applied::takes_first, meaning::proofs::Applied::takes_second, meaning::specs::Rows::code))]
+pub fn takes_second(op: Op) -> bool
+    ensures { result ≡ takes_second op }
 {
-    both(both(at_most(4, op), at_most(op, 17)), !same(op, 9))
+    matches!(
+        op,
+        Op::Add
+            | Op::Subtract
+            | Op::Multiply
+            | Op::Divide
+            | Op::Remainder
+            | Op::Equal
+            | Op::Unequal
+            | Op::Less
+            | Op::LessEqual
+            | Op::Greater
+            | Op::GreaterEqual
+            | Op::And
+            | Op::Or
+    )
 }
 
 // Does the first operand of an and or an or decide it?
-pub fn is_decided(op: usize, u: Value) -> bool
-    ensures { result ≡ decides (op_of op) u }
+#[tactic(auto, unfolding(meaning::proofs::Applied::decides, meaning::specs::Rows::code))]
+pub fn is_decided(op: Op, u: Value) -> bool
+    ensures { result ≡ decides op u }
 {
-    let holds = truth_of(u);
-    either(both(same(op, 16), !holds), both(same(op, 17), holds))
+    match op {
+        Op::And => !truth_of(u),
+        Op::Or => truth_of(u),
+        _ => false,
+    }
 }
 
 // The table of ops: u and v are the operands, n is how many nodes the op's path selects.
+#[tactic(auto, unfolding(meaning::specs::Meaning::applied))]
 pub fn apply(
     literals: &[f64],
-    op: usize,
+    op: Op,
     index: usize,
     u: Value,
     v: Value,
@@ -100,34 +131,34 @@ pub fn apply(
     context: Context,
 ) -> Value
     requires { n ≤ most_rows }
-    ensures { result ≡ applied literals.now (op_of op) index u v n context }
+    ensures { result ≡ applied literals.now op index u v n context }
 {
     let x = number_of(u);
     let y = number_of(v);
-    let a = truth_of(u);
-    let b = truth_of(v);
     match op {
-        1 => Value::Number(literal_at(literals, index)),
-        2 => Value::Number(context.position),
-        3 => Value::Number(context.size),
-        4 => Value::Number(x + y),
-        5 => Value::Number(x - y),
-        6 => Value::Number(x * y),
-        7 => Value::Number(x / y),
-        8 => Value::Number(remainder(x, y)),
-        9 => Value::Number(-x),
-        10 => Value::Truth(x == y),
-        11 => Value::Truth(x != y),
-        12 => Value::Truth(x < y),
-        13 => Value::Truth(x <= y),
-        14 => Value::Truth(x > y),
-        15 => Value::Truth(x >= y),
-        16 => Value::Truth(both(a, b)),
-        17 => Value::Truth(either(a, b)),
-        18 => Value::Truth(!a),
-        19 => Value::Truth(nonzero(x)),
-        20 => Value::Truth(below(0, n)),
-        21 => Value::Number(float_of(n)),
-        _ => Value::Truth(false),
+        Op::Literal => Value::Number(literal_at(literals, index)),
+        Op::Position => Value::Number(context.position),
+        Op::Last => Value::Number(context.size),
+        Op::Add => Value::Number(x + y),
+        Op::Subtract => Value::Number(x - y),
+        Op::Multiply => Value::Number(x * y),
+        Op::Divide => Value::Number(x / y),
+        Op::Remainder => Value::Number(remainder(x, y)),
+        Op::Negate => Value::Number(-x),
+        Op::Equal => Value::Truth(x == y),
+        Op::Unequal => Value::Truth(x != y),
+        Op::Less => Value::Truth(x < y),
+        Op::LessEqual => Value::Truth(x <= y),
+        Op::Greater => Value::Truth(x > y),
+        Op::GreaterEqual => Value::Truth(x >= y),
+        Op::And => Value::Truth(truth_of(u) && truth_of(v)),
+        Op::Or => Value::Truth(truth_of(u) || truth_of(v)),
+        Op::Negation => Value::Truth(!truth_of(u)),
+        Op::TruthOf => Value::Truth(nonzero(x)),
+        Op::Exists => Value::Truth(0 < n),
+        Op::Count => Value::Number(float_of(n)),
+        Op::Unknown | Op::Relative | Op::Absolute | Op::Step | Op::Predicate => {
+            Value::Truth(false)
+        }
     }
 }

@@ -1,11 +1,10 @@
--- `values::nonzero` meets its contract: only NaN differs from itself.
--- Assumes nothing.
-use mathlib.Core.Path.{sym, ◌∙◌}
+-- `values::nonzero` meets its contract: the literal zero is the definition's. Assumes nothing.
+use Rattle.std.proofs.Common.{rules}
 use lib.Ieee
-use Rattle.meaning.specs.Meaning.{float}
-use Rattle.meaning.proofs.Numbers.{nonzero_by}
+use Rattle.meaning.specs.Meaning.{nonzero, float}
 use Rattle.values.proofs.nonzero.Goals as goal
+use Rattle.values.proofs.nonzero.Goals.{then-is_nan, else-is_nan}
 
 pub returns : goal.returns
-unfolding float Ieee.of_int Ieee.of_bits
-returns c = c.both.ensures ∙ sym (nonzero_by _)
+unfolding nonzero float Ieee.of_int Ieee.of_bits
+returns c = elim c.if-is_nan.branch [ then-is_nan w ↦ rw (w.result-is, ← c.is_nan.ensures.value, w.if-is_nan.true) | else-is_nan w ↦ rw (w.result-is, ← c.is_nan.ensures.value, w.if-is_nan.false) ]
