@@ -7,6 +7,7 @@ use mathlib.Core.Bool.{Bool, true, false, ◌&&◌, ◌||◌, not, cond}
 use mathlib.Core.List.{List, [], ◌∷◌}
 use lib.Dec.{T, eqb, ltb}
 use lib.ListN.{length}
+use Rattle.std.specs.Prelude.{Option, None, Some}
 use native.Mathlib.Nat.{max-zero, zero-max}
 use borrow.Author.Tests.{eqb-true}
 use Rattle.meaning.proofs.Bools.{or_i_l, or_i_r, untrue}
@@ -45,7 +46,7 @@ pick_some f none (on ms a ∷ rest) m h = by (has ms m) (pick_some f none rest m
 
 -- ---- a token's own faults
 
-module _ (s : Source) (i : ℕ) (here : place s i ≤ length s.text) {f : Fault} {x : ℕ} (told : Tells s f x) where
+module _ (s : Source) (i : ℕ) (here : place s i ≤ length s.text) {f : Option Fault} {x : ℕ} (told : Tells s f x) where
   -- no fault, or one at the token
   none_tells : Tells s f (max (worst s []) x)
   unfolding worst
@@ -58,7 +59,7 @@ module _ (s : Source) (i : ℕ) (here : place s i ≤ length s.text) {f : Fault}
       (sooner_tells s (record { least = least; most = most; within = here }) told)
 
   name_by : (a b c : Bool)
-      → Tells s (with_own (cond a 0 (cond b 26 (cond c 0 24))) (place s i) f)
+      → Tells s (with_own (cond a None (cond b (Some 26) (cond c None (Some 24)))) (place s i) f)
       (max (worst s (cond a [] (cond b (fault s 26 i) (cond c [] (fault s 24 i))))) x)
   unfolding with_own worst
   name_by true b c = none_tells
@@ -70,7 +71,7 @@ module _ (s : Source) (i : ℕ) (here : place s i ≤ length s.text) {f : Fault}
   unfolding own_of name_faults
   name_tells = name_by (is_star s.text (place s i)) (has_prefix s.text (place s i)) (is_named s.names (word_of s i))
 
-  axis_by : (a : Bool) → Tells s (with_own (cond a 0 26) (place s i) f) (max (worst s (cond a [] (fault s 26 i))) x)
+  axis_by : (a : Bool) → Tells s (with_own (cond a None (Some 26)) (place s i) f) (max (worst s (cond a [] (fault s 26 i))) x)
   unfolding with_own worst
   axis_by true = none_tells
   axis_by false = one_tells 26 (omega arith) (omega arith)
@@ -79,7 +80,7 @@ module _ (s : Source) (i : ℕ) (here : place s i ≤ length s.text) {f : Fault}
   unfolding own_of
   axis_tells = axis_by (holds_axis (word_of s i))
 
-  number_by : (a : Bool) → Tells s (with_own (cond a 25 0) (place s i) f) (max (worst s (cond a (fault s 25 i) [])) x)
+  number_by : (a : Bool) → Tells s (with_own (cond a (Some 25) None) (place s i) f) (max (worst s (cond a (fault s 25 i) [])) x)
   unfolding with_own worst
   number_by true = one_tells 25 (omega arith) (omega arith)
   number_by false = none_tells
@@ -115,7 +116,7 @@ module _ (s : Source) (i : ℕ) (l : Level) (ls : List Level) (v : Sort) (n : �
   abbrev pub name_of : ℕ → ℕ
   name_of k = name_in s k (place s i) n
 
-  abbrev pub fault_of : ℕ → ℕ → Fault → Fault
+  abbrev pub fault_of : ℕ → ℕ → Option Fault → Option Fault
   fault_of k q f = fault_in (group_of k) k (tightness_of k) q l v n (place s i) (own_of s k (place s i)) f
 
   -- the kind of the level that an act opens, by its number
@@ -131,7 +132,7 @@ module _ (s : Source) (i : ℕ) (l : Level) (ls : List Level) (v : Sort) (n : �
     pub record Behind (k q : ℕ) (y : ℕ → Survey) (z : Survey) : Type 0 where
       pub urgency : ℕ
       pub equation : z ≡ y urgency
-      pub tells : (f : Fault) → Tells s f x → Known s i l n q → Tells s (fault_of k q f) urgency
+      pub tells : (f : Option Fault) → Tells s f x → Known s i l n q → Tells s (fault_of k q f) urgency
 
     -- a token leads to the mode m'
     abbrev pub Goes : Token → Mode → Mode → ℕ → ℕ → Type 0
@@ -142,13 +143,13 @@ module _ (s : Source) (i : ℕ) (l : Level) (ls : List Level) (v : Sort) (n : �
     Enters t m m' a k q = Behind k q (survey m' (fresh (kind_of a) (place s (suc i))) (level_of k q ∷ ls) v n) (survey_behind t m x)
 
     gone : {k q : ℕ} {y : ℕ → Survey} {z : Survey} (u : ℕ)
-        → z ≡ y u → ((f : Fault) → Tells s f x → Known s i l n q → Tells s (fault_of k q f) u) → Behind k q y z
+        → z ≡ y u → ((f : Option Fault) → Tells s f x → Known s i l n q → Tells s (fault_of k q f) u) → Behind k q y z
     gone u e h = record { urgency = u; equation = e; tells = h }
 
-    none_told : {q : ℕ} (f : Fault) → Tells s f x → Known s i l n q → Tells s f (max (worst s []) x)
+    none_told : {q : ℕ} (f : Option Fault) → Tells s f x → Known s i l n q → Tells s f (max (worst s []) x)
     none_told f told known = none_tells s i known.here told
 
-    operator_told : (t : ℕ) {q : ℕ} (f : Fault) → Tells s f x → Known s i l n q
+    operator_told : (t : ℕ) {q : ℕ} (f : Option Fault) → Tells s f x → Known s i l n q
         → Tells s (operator_faults lowered t l v f) (operator_faults (noted s) t l v x)
     operator_told t f told known = operator_faults_tell s t v known.inside told
 
@@ -173,7 +174,7 @@ module _ (s : Source) (i : ℕ) (l : Level) (ls : List Level) (v : Sort) (n : �
     choose true y z = refl
     choose false y z = refl
 
-    sign_tells : (b : Bool) {f : Fault} → Tells s f x → Inside s l
+    sign_tells : (b : Bool) {f : Option Fault} → Tells s f x → Inside s l
         → Tells s (cond b (sign_faults lowered l f) (operator_faults lowered 5 l v f)) (cond b (sign_faults (noted s) l x) (operator_faults (noted s) 5 l v x))
     sign_tells true told inside = sign_faults_tell s inside told
     sign_tells false told inside = operator_faults_tell s 5 v inside told

@@ -7,15 +7,17 @@ use lib.Dec.{T, eqb, leb, leb→le}
 use native.Mathlib.Omega.{arith}
 use borrow.Author.Tests.{le-leb}
 use Rattle.meaning.proofs.Bools.{and_l, and_r, or_e, is_true}
+use Rattle.levels.specs.declared.Group.{Group}
+use Rattle.levels.specs.declared.Group.TheVariants.{Other, StepToken, Operand, Slash, Bar, Operator, Quoted, Round, Square}
 use Rattle.text.specs.declared.Level.{Level}
 use Rattle.text.specs.Machine.{number, rows, has, pick}
 use Rattle.text.specs.Limited.{Source, word_at, function_names}
 use Rattle.names.specs.Names.{position}
 use Rattle.text.specs.Survey.{fresh, path_begun, other_begun, operated}
-use Rattle.levels.specs.Levels.{is_due, goes_on, stepped, slashed, grouped, bracketed, quoted, groups, level_in, name_in}
+use Rattle.levels.specs.Levels.{is_due, goes_on, stepped, slashed, grouped, bracketed, quoted, level_in, name_in}
 use Rattle.modes.specs.Acts.{opened, act_number, act_of}
 use Rattle.modes.proofs.Table.{every, at}
-use Rattle.levels.proofs.Modes.{fourteen}
+use Rattle.levels.proofs.Modes.{numbers, fourteen}
 use Rattle.levels.proofs.Urgent.{Within}
 
 -- the level k is behind a token that ends before p, and l before it
@@ -64,26 +66,26 @@ module _ (p : ℕ) (l : Level) where
       (kept_cond (eqb t 4) (begun 2 false l.andor false false (λ h. omega arith))
       (begun (max 1 l.rank) false l.andor false false (λ h. omega arith))))
 
-  pub level_kept : (g t q : ℕ) → Kept p l (level_in g t q p l)
-  unfolding level_in stepped slashed grouped bracketed quoted
-  level_kept g t q =
-      kept_cond (eqb g 5) (operated_kept t)
-      (kept_cond (eqb g 1) (kept_cond (is_due q) path unchanged)
-      (kept_cond (eqb g 3) (kept_cond (is_due q) path (kept_cond (goes_on q && not l.inpath) (flagged true true) unchanged))
-      (kept_cond (eqb g 2) other
-      (kept_cond (eqb g 7) (kept_cond (is_due q || eqb q 11) other unchanged)
-      (kept_cond (eqb g 8) (kept_cond l.inpath unchanged (flagged true l.inpath))
-      (kept_cond (eqb g 6) (kept_cond (eqb q 10) unchanged other)
-      (kept_cond (eqb g 4) (begun l.rank true l.andor false false (λ h. h)) unchanged)))))))
-    where
-      path : Kept p l (path_begun l)
-      path = flagged l.joined true
+  path : Kept p l (path_begun l)
+  path = flagged l.joined true
 
-      other : Kept p l (other_begun l)
-      other = flagged l.joined false
+  other : Kept p l (other_begun l)
+  other = flagged l.joined false
+
+  pub level_kept : (g : Group) (t q : ℕ) → Kept p l (level_in g t q p l)
+  unfolding level_in stepped slashed grouped bracketed quoted
+  level_kept Other t q = unchanged
+  level_kept StepToken t q = kept_cond (is_due q) path unchanged
+  level_kept Operand t q = other
+  level_kept Slash t q = kept_cond (is_due q) path (kept_cond (goes_on q && not l.inpath) (flagged true true) unchanged)
+  level_kept Bar t q = begun l.rank true l.andor false false (λ h. h)
+  level_kept Operator t q = operated_kept t
+  level_kept Quoted t q = kept_cond (eqb q 10) unchanged other
+  level_kept Round t q = kept_cond (is_due q || eqb q 11) other unchanged
+  level_kept Square t q = kept_cond l.inpath unchanged (flagged true l.inpath)
 
   -- the bytes of a level behind a token, and of one that opens
-  pub level_bytes : (top g t q : ℕ) → p ≤ top → Within top l → Within top (level_in g t q p l)
+  pub level_bytes : (top : ℕ) (g : Group) (t q : ℕ) → p ≤ top → Within top l → Within top (level_in g t q p l)
   level_bytes top g t q h w = (level_kept g t q).bytes top h w
 
 pub fresh_bytes : (top kind p : ℕ) → p ≤ top → Within top (fresh kind p)
@@ -96,15 +98,15 @@ keeps_name : ℕ → ℕ → Bool
 keeps_name k q = not (leb 10 (act_of k q) && leb (act_of k q) 11) || (eqb k 11 || (leb 9 q && (leb q 10 && not (eqb k 12))))
 
 keeps_in : ℕ → ℕ → Bool
-keeps_in k g = every (λ q x. keeps_name k q) 0 fourteen
+keeps_in k y = every (λ q x. keeps_name k q) 0 fourteen
 
-every_keeps : T (every keeps_in 0 groups)
+every_keeps : T (every keeps_in 0 numbers)
 unfolding keeps_in keeps_name fourteen act_of act_number opened number rows has pick
 every_keeps = tt
 
 keeps_name_lem : (k q : ℕ) → k < 34 → q < 14 → T (keeps_name k q)
 unfolding keeps_in fourteen
-keeps_name_lem k q class mode = at (λ (r x : ℕ). keeps_name k r) fourteen (at keeps_in groups every_keeps k class) q mode
+keeps_name_lem k q class mode = at (λ (r x : ℕ). keeps_name k r) fourteen (at keeps_in numbers every_keeps k class) q mode
 
 name_by : (top b n w : ℕ) (x y : Bool) → b ≤ top → n ≤ top → T (not y) → cond x b (cond y w n) ≤ top
 name_by top b n w true y h k none = h

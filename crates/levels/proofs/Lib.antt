@@ -1,7 +1,5 @@
 pub mod Acting
 pub mod Bounds
-pub mod Digits
-pub mod Functions
 pub mod Modes
 pub mod Nesting
 pub mod Steps

@@ -12,23 +12,29 @@ use Rattle.text.specs.Machine.{Mode, operand, argument, union, root, step, axis,
 use Rattle.text.specs.Survey.{after}
 use Rattle.modes.specs.Acts.{modes, opened, act_number}
 use Rattle.modes.proofs.Table.{every, at}
-use Rattle.levels.specs.Levels.{is_due, takes_sign, goes_on, groups}
+use Rattle.levels.specs.Levels.{is_due, takes_sign, goes_on}
 
 abbrev pub mode_at : ℕ → Mode
 mode_at q = get_or modes q operand
 
 -- ---- numbers of classes and of modes
 
-is_class : ℕ → ℕ → Bool
-is_class k g = eqb (code (class_of k)) k
+-- as many numbers as there are classes
+abbrev pub numbers : List ℕ
+numbers =
+    0 ∷ 1 ∷ 2 ∷ 3 ∷ 4 ∷ 5 ∷ 6 ∷ 7 ∷ 8 ∷ 9 ∷ 10 ∷ 11 ∷ 12 ∷ 13 ∷ 14 ∷ 15 ∷ 16 ∷ 17 ∷ 18 ∷ 19 ∷ 20 ∷ 21 ∷ 22 ∷ 23 ∷ 24 ∷ 25 ∷ 26 ∷ 27 ∷ 28 ∷ 29
+    ∷ 30 ∷ 31 ∷ 32 ∷ 33 ∷ []
 
-every_class : T (every is_class 0 groups)
+is_class : ℕ → ℕ → Bool
+is_class k x = eqb (code (class_of k)) k
+
+every_class : T (every is_class 0 numbers)
 unfolding is_class code
 every_class = tt
 
 pub code_class : (k : ℕ) → k < 34 → code (class_of k) ≡ k
 unfolding is_class
-code_class k h = eqb→eq (code (class_of k)) k (at is_class groups every_class k h)
+code_class k h = eqb→eq (code (class_of k)) k (at is_class numbers every_class k h)
 
 is_mode : ℕ → ℕ → Bool
 is_mode q x = eqb (number (mode_at q)) q

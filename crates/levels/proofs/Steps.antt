@@ -7,6 +7,7 @@ use mathlib.Core.Bool.{Bool, true, false, not, cond}
 use mathlib.Core.List.{List, ◌∷◌}
 use lib.Dec.{T, eqb}
 use lib.ListN.{length}
+use Rattle.std.specs.Prelude.{Option}
 use borrow.Author.Tests.{eqb-true}
 use Rattle.meaning.proofs.Bools.{not_e, eq→eqb}
 use Rattle.text.specs.declared.Fault.{Fault}
@@ -18,15 +19,15 @@ use Rattle.text.specs.Limited.{Source, place}
 use Rattle.text.specs.Survey.{noted, fresh, end_faults, level_sort, sort_behind, fault_behind, Survey, survey, after, left, comma_read, survey_token}
 use Rattle.modes.specs.Acts.{opened, act_number, act_of}
 use Rattle.modes.proofs.Table.{every, at}
-use Rattle.levels.specs.Levels.{groups, group_of, tightness_of, level_in, sort_in, lowered, own_of, name_in, fault_in, urgency_of, sound}
-use Rattle.levels.proofs.Modes.{mode_at, code_class, number_mode, is_go, is_enter, goes, enters, leaves, parts}
+use Rattle.levels.specs.Levels.{group_of, tightness_of, level_in, sort_in, lowered, own_of, name_in, fault_in, urgency_of, sound}
+use Rattle.levels.proofs.Modes.{numbers, mode_at, code_class, number_mode, is_go, is_enter, goes, enters, leaves, parts}
 use Rattle.levels.proofs.Urgent.{Tells, Inside, sound_tells, lowered_tells, end_faults_tell}
 use Rattle.levels.proofs.Acting.{Known, Behind, Goes, Enters, goes_behind, enters_behind, leaves_behind, parts_behind}
 
 -- ---- what is behind a token of class k in mode q
 
 -- the fault behind token i, which leads to a mode or opens a bracket
-abbrev pub fault_beyond : Source → ℕ → Level → Sort → ℕ → ℕ → ℕ → Fault → Fault
+abbrev pub fault_beyond : Source → ℕ → Level → Sort → ℕ → ℕ → ℕ → Option Fault → Option Fault
 fault_beyond s i l v n k q f = fault_in (group_of k) k (tightness_of k) q l v n (place s i) (own_of s k (place s i)) f
 
 -- of a level that closes: how many arguments it holds, none or one; its sort; is it at fault; the fault behind it, o being the level around
@@ -39,11 +40,11 @@ sort_closed q l v = sort_behind l.kind (arity_in q) (level_sort l v)
 abbrev pub is_faulty : ℕ → Level → Sort → Bool
 is_faulty q l v = fault_behind l.kind (arity_in q) (level_sort l v)
 
-abbrev pub fault_closed : ℕ → Level → Level → Sort → Fault → Fault
+abbrev pub fault_closed : ℕ → Level → Level → Sort → Option Fault → Option Fault
 fault_closed q l o v f = lowered (is_faulty q l v) o.m (cond (eqb (arity_in q) 0) f (end_faults lowered l v f))
 
 -- the fault behind the first of two arguments
-abbrev pub fault_parted : Level → Level → Sort → Fault → Fault
+abbrev pub fault_parted : Level → Level → Sort → Option Fault → Option Fault
 fault_parted l o v f = lowered true o.m (end_faults lowered l v f)
 
 -- the act of class k in mode q
@@ -61,7 +62,7 @@ by_numbers P k q {m} class mode e h =
 
 -- ---- a token that leads to a mode, or opens a bracket
 
-module _ (s : Source) (i : ℕ) (l : Level) (ls : List Level) (v : Sort) (n : ℕ) (f : Fault) (k q : ℕ) (class : k < 34) (mode : q < 14)
+module _ (s : Source) (i : ℕ) (l : Level) (ls : List Level) (v : Sort) (n : ℕ) (f : Option Fault) (k q : ℕ) (class : k < 34) (mode : q < 14)
     (safe : T (sound s f)) (known : Known s i l n q) where
   settled :
       {y : ℕ → Survey} {z : Survey} → Behind s i l ls v n (urgency_of s f) k q y z
@@ -105,9 +106,9 @@ module _ (s : Source) (i : ℕ) (l : Level) (ls : List Level) (v : Sort) (n : �
 -- ---- `]` never stands behind the `(` of a call: with it the arity below is 1
 
 no_square : ℕ → ℕ → Bool
-no_square k g = not (eqb (act_of k 1) 19)
+no_square k x = not (eqb (act_of k 1) 19)
 
-every_square : T (every no_square 0 groups)
+every_square : T (every no_square 0 numbers)
 unfolding no_square act_of act_number opened number rows has pick
 every_square = tt
 
@@ -117,7 +118,7 @@ square_arity k q class e = by (eqb q 1) refl
   where
     by : (b : Bool) → eqb q 1 ≡ b → ◌≡◌ {A = ℕ} (cond b 0 1) 1
     by true f =
-        absurd (not_e (eqb (act_of k 1) 19) (at no_square groups every_square k class)
+        absurd (not_e (eqb (act_of k 1) 19) (at no_square numbers every_square k class)
         (eq→eqb (act_of k 1) 19 (ap (λ (r : ℕ). act_of k r) (sym (eqb-true q 1 f)) ∙ e)))
     by false f = refl
 
@@ -137,7 +138,7 @@ module _ (s : Source) (i : ℕ) (l o : Level) (ls : List Level) (v : Sort) (n : 
       subst (λ (q' : ℕ). beyond x ≡ left part (arity_in q') s (survey (mode_at q) l (o ∷ ls) v n x)) (number_mode q mode)
       (leaves_behind s i l (o ∷ ls) v n x (class_of k) (mode_at q) (leaves (act k q) least most))
 
-  module _ (f : Fault) (safe : T (sound s f)) (inside : Inside s l) (around : o.m ≤ length s.text) where
+  module _ (f : Option Fault) (safe : T (sound s f)) (inside : Inside s l) (around : o.m ≤ length s.text) where
     ended : (b : Bool) → Tells s (cond b f (end_faults lowered l v f)) (cond b (urgency_of s f) (end_faults (noted s) l v (urgency_of s f)))
     ended true = sound_tells s f safe
     ended false = end_faults_tell s v inside (sound_tells s f safe)

@@ -3,13 +3,14 @@
 use Prim.Native.Nat.{ℕ, ◌+◌, ◌*◌, ◌≤◌, ◌<◌, max}
 use mathlib.Core.Path.{◌≡◌, refl, ◌∙◌, ap, sym, subst}
 use mathlib.Core.Bool.{Bool, true, false, ◌&&◌, ◌||◌, not}
-use mathlib.Core.Logic.{◌⊎◌, inl, inr, ⊎_elim}
+use mathlib.Core.Logic.{⊎_elim}
 use lib.Dec.{T, eqb, ltb, leb, eqb→eq, ltb→lt, leb→le, le→leb}
 use lib.ListN.{length}
 use native.Mathlib.Nat.{le_of_lt}
 use native.Mathlib.Omega.{arith}
-use borrow.Author.Tests.{ltb-false, ne_eqb, eq-eqb}
-use Rattle.meaning.proofs.Bools.{and_l, and_r, and_i, or_i_r, or_e, or_none_l, or_none_r, truly, eq_or_ne}
+use Rattle.std.specs.Prelude.{Option, None, Some}
+use borrow.Author.Tests.{ltb-false, eq-eqb}
+use Rattle.meaning.proofs.Bools.{and_l, and_r, and_i, or_e, or_none_l, or_none_r, truly, eq_or_ne}
 use Rattle.text.specs.declared.Fault.{Fault}
 use Rattle.text.specs.declared.Level.{Level}
 use Rattle.text.specs.declared.Sort.{Sort}
@@ -24,7 +25,7 @@ pub record Possible (s : Source) (n p : ℕ) : Type 0 where
   pub within : p ≤ length s.text
 
 -- the fault f is sound, and as urgent as found
-pub record Tells (s : Source) (f : Fault) (found : ℕ) : Type 0 where
+pub record Tells (s : Source) (f : Option Fault) (found : ℕ) : Type 0 where
   pub urgent : urgency_of s f ≡ found
   pub safe : T (sound s f)
 
@@ -38,46 +39,40 @@ abbrev pub Inside : Source → Level → Type 0
 Inside s l = Within (length s.text) l
 
 -- a sound fault is as urgent as it is
-pub sound_tells : (s : Source) (f : Fault) → T (sound s f) → Tells s f (urgency_of s f)
+pub sound_tells : (s : Source) (f : Option Fault) → T (sound s f) → Tells s f (urgency_of s f)
 sound_tells s f h = record { urgent = refl; safe = h }
 
 module _ (s : Source) where
-  -- ---- a sound fault is none, or a possible one
+  -- ---- a sound fault is a possible one
 
-  pub sound_is : (f : Fault) → T (sound s f) → (f.number ≡ 0) ⊎ Possible s f.number f.place
+  pub sound_is : (f : Fault) → T (sound s (Some f)) → Possible s f.number f.place
   unfolding sound
   sound_is f h =
       let n : ℕ = f.number in
       let p : ℕ = f.place in
       let size : ℕ = length s.text in
-      or_e (eqb n 0) (leb 24 n && (leb n 26 && leb p size)) h (λ z. inl (eqb→eq n 0 z))
-      (λ k. inr (record {
-        least = leb→le 24 n (and_l (leb 24 n) (leb n 26 && leb p size) k);
-        most = leb→le n 26 (and_l (leb n 26) (leb p size) (and_r (leb 24 n) (leb n 26 && leb p size) k));
-        within = leb→le p size (and_r (leb n 26) (leb p size) (and_r (leb 24 n) (leb n 26 && leb p size) k));
-      }))
+      record {
+        least = leb→le 24 n (and_l (leb 24 n) (leb n 26 && leb p size) h);
+        most = leb→le n 26 (and_l (leb n 26) (leb p size) (and_r (leb 24 n) (leb n 26 && leb p size) h));
+        within = leb→le p size (and_r (leb n 26) (leb p size) (and_r (leb 24 n) (leb n 26 && leb p size) h));
+      }
 
-  pub none_sound : (f : Fault) → f.number ≡ 0 → T (sound s f)
-  unfolding sound
-  none_sound f e = rw (eq-eqb f.number 0 e) tt
-
-  pub none_urgent : (f : Fault) → f.number ≡ 0 → urgency_of s f ≡ 0
+  pub none_urgent : urgency_of s None ≡ 0
   unfolding urgency_of
-  none_urgent f e = rw (eq-eqb f.number 0 e)
+  none_urgent = refl
 
-  pub there_sound : (f : Fault) → Possible s f.number f.place → T (sound s f)
+  pub there_sound : (f : Fault) → Possible s f.number f.place → T (sound s (Some f))
   unfolding sound
   there_sound f h =
       let n : ℕ = f.number in
       let p : ℕ = f.place in
       let size : ℕ = length s.text in
-      or_i_r (eqb n 0) (leb 24 n && (leb n 26 && leb p size))
-      (and_i (leb 24 n) (leb n 26 && leb p size) (le→leb 24 n h.least)
-      (and_i (leb n 26) (leb p size) (le→leb n 26 h.most) (le→leb p size h.within)))
+      and_i (leb 24 n) (leb n 26 && leb p size) (le→leb 24 n h.least)
+      (and_i (leb n 26) (leb p size) (le→leb n 26 h.most) (le→leb p size h.within))
 
-  pub there_urgent : (f : Fault) → Possible s f.number f.place → urgency_of s f ≡ urgency s f.number f.place
+  pub there_urgent : (f : Fault) → urgency_of s (Some f) ≡ urgency s f.number f.place
   unfolding urgency_of
-  there_urgent f h = rw (ne_eqb f.number 0 (λ e. omega arith))
+  there_urgent f = refl
 
   -- ---- the sooner of two faults
 
@@ -116,61 +111,61 @@ module _ (s : Source) where
   abbrev new : ℕ → ℕ → Fault
   new n p = record { number = n; place = p }
 
-  sooner_taken : (n p : ℕ) (f : Fault) → (eqb f.number 0 || is_sooner n p f) ≡ true → sooner n p f ≡ new n p
+  sooner_none : (n p : ℕ) → sooner n p None ≡ Some (new n p)
+  unfolding sooner
+  sooner_none n p = refl
+
+  sooner_taken : (n p : ℕ) (f : Fault) → is_sooner n p f ≡ true → sooner n p (Some f) ≡ Some (new n p)
   unfolding sooner is_sooner
   sooner_taken n p f e = rw e
 
-  sooner_left : (n p : ℕ) (f : Fault) → (eqb f.number 0 || is_sooner n p f) ≡ false → sooner n p f ≡ f
+  sooner_left : (n p : ℕ) (f : Fault) → is_sooner n p f ≡ false → sooner n p (Some f) ≡ Some f
   unfolding sooner is_sooner
   sooner_left n p f e = rw e
 
   -- the new fault is kept, and it is the more urgent; or the old one is
-  new_told : {n p : ℕ} (f : Fault) {x : ℕ} → Possible s n p → sooner n p f ≡ new n p → x ≤ urgency s n p
+  new_told : {n p : ℕ} (f : Option Fault) {x : ℕ} → Possible s n p → sooner n p f ≡ Some (new n p) → x ≤ urgency s n p
       → Tells s (sooner n p f) (max (urgency s n p) x)
   new_told {n} {p} f {x} h e less =
       let most : max (urgency s n p) x ≡ urgency s n p = omega arith in
       record {
-        urgent = ap (urgency_of s) e ∙ (there_urgent (new n p) h ∙ sym most);
-        safe = subst (λ (g : Fault). T (sound s g)) (sym e) (there_sound (new n p) h);
+        urgent = ap (urgency_of s) e ∙ (there_urgent (new n p) ∙ sym most);
+        safe = subst (λ (g : Option Fault). T (sound s g)) (sym e) (there_sound (new n p) h);
       }
 
-  old_told : (n p : ℕ) {f : Fault} {x : ℕ} → Tells s f x → sooner n p f ≡ f → urgency s n p ≤ x
+  old_told : (n p : ℕ) {f : Option Fault} {x : ℕ} → Tells s f x → sooner n p f ≡ f → urgency s n p ≤ x
       → Tells s (sooner n p f) (max (urgency s n p) x)
   old_told n p {f} {x} h e less =
       let most : max (urgency s n p) x ≡ x = omega arith in
       record {
         urgent = ap (urgency_of s) e ∙ (h.urgent ∙ sym most);
-        safe = subst (λ (g : Fault). T (sound s g)) (sym e) h.safe;
+        safe = subst (λ (g : Option Fault). T (sound s g)) (sym e) h.safe;
       }
 
-  sooner_there : {n p : ℕ} {f : Fault} {x : ℕ} → Possible s n p → Tells s f x → Possible s f.number f.place
-      → Tells s (sooner n p f) (max (urgency s n p) x)
-  sooner_there {n} {p} {f} {x} h told k = by (is_sooner n p f) refl
+  sooner_on : (f : Option Fault) {n p x : ℕ} → Possible s n p → Tells s f x → Tells s (sooner n p f) (max (urgency s n p) x)
+  sooner_on None {n} {p} {x} h told =
+      let nothing : x ≡ 0 = sym told.urgent ∙ none_urgent in
+      new_told None h (sooner_none n p) (omega arith)
+  sooner_on (Some f) {n} {p} {x} h told = by (is_sooner n p f) refl
     where
-      some : eqb f.number 0 ≡ false
-      some = ne_eqb f.number 0 (λ e. omega arith)
+      k : Possible s f.number f.place
+      k = sound_is f told.safe
 
       known : x ≡ urgency s f.number f.place
-      known = sym told.urgent ∙ there_urgent f k
+      known = sym told.urgent ∙ there_urgent f
 
-      by : (t : Bool) → is_sooner n p f ≡ t → Tells s (sooner n p f) (max (urgency s n p) x)
+      by : (t : Bool) → is_sooner n p f ≡ t → Tells s (sooner n p (Some f)) (max (urgency s n p) x)
       by true e =
-          new_told f h (sooner_taken n p f (rw (some, e)))
+          new_told (Some f) h (sooner_taken n p f e)
           (subst (λ (z : ℕ). z ≤ urgency s n p) (sym known) (less_urgent f.number f.place n p (le_of_lt (sooner_less n p f h k (truly e)))))
       by false e =
-          old_told n p told (sooner_left n p f (rw (some, e)))
+          old_told n p told (sooner_left n p f e)
           (subst (λ (z : ℕ). urgency s n p ≤ z) (sym known) (less_urgent n p f.number f.place (later_most n p f h k e)))
 
-  pub sooner_tells : {n p : ℕ} {f : Fault} {x : ℕ} → Possible s n p → Tells s f x → Tells s (sooner n p f) (max (urgency s n p) x)
-  sooner_tells {n} {p} {f} {x} h told =
-      ⊎_elim
-      (λ e.
-      let nothing : x ≡ 0 = sym told.urgent ∙ none_urgent f e in
-      new_told f h (sooner_taken n p f (rw (eq-eqb f.number 0 e))) (omega arith))
-      (sooner_there h told)
-      (sound_is f told.safe)
+  pub sooner_tells : {n p : ℕ} {f : Option Fault} {x : ℕ} → Possible s n p → Tells s f x → Tells s (sooner n p f) (max (urgency s n p) x)
+  sooner_tells {f = f} h told = sooner_on f h told
 
-  pub lowered_tells : (b : Bool) {p : ℕ} {f : Fault} {x : ℕ} → p ≤ length s.text → Tells s f x → Tells s (lowered b p f) (noted s b p x)
+  pub lowered_tells : (b : Bool) {p : ℕ} {f : Option Fault} {x : ℕ} → p ≤ length s.text → Tells s f x → Tells s (lowered b p f) (noted s b p x)
   unfolding lowered noted
   lowered_tells true h told = sooner_tells (record { least = omega arith; most = omega arith; within = h }) told
   lowered_tells false h told = told
@@ -178,7 +173,7 @@ module _ (s : Source) where
   -- ---- what operators, signs and ends of levels show
 
   pub operator_faults_tell :
-      (k : ℕ) {l : Level} (v : Sort) {f : Fault} {x : ℕ} → Inside s l → Tells s f x
+      (k : ℕ) {l : Level} (v : Sort) {f : Option Fault} {x : ℕ} → Inside s l → Tells s f x
       → Tells s (operator_faults lowered k l v f) (operator_faults (noted s) k l v x)
   unfolding operator_faults
   operator_faults_tell k {l} v i told =
@@ -187,13 +182,13 @@ module _ (s : Source) where
       (lowered_tells (eqb k 3 && eqb l.rank 2) i.e_inside
       (lowered_tells (eqb k 4 && eqb l.rank 2) i.g_inside told)))
 
-  pub sign_faults_tell : {l : Level} {f : Fault} {x : ℕ} → Inside s l → Tells s f x
+  pub sign_faults_tell : {l : Level} {f : Option Fault} {x : ℕ} → Inside s l → Tells s f x
       → Tells s (sign_faults lowered l f) (sign_faults (noted s) l x)
   unfolding sign_faults
   sign_faults_tell {l} i told = lowered_tells (wants_path l && bare l) i.e_inside told
 
   pub end_faults_tell :
-      {l : Level} (v : Sort) {f : Fault} {x : ℕ} → Inside s l → Tells s f x → Tells s (end_faults lowered l v f) (end_faults (noted s) l v x)
+      {l : Level} (v : Sort) {f : Option Fault} {x : ℕ} → Inside s l → Tells s f x → Tells s (end_faults lowered l v f) (end_faults (noted s) l v x)
   unfolding end_faults
   end_faults_tell {l} v i told =
       lowered_tells (ltb 0 l.rank && not (number_taken (member_sort l v))) i.m_inside
@@ -210,24 +205,26 @@ module _ (s : Source) where
   unfolding urgency
   there_one n p m q h k e = (omega arith, λ some. omega arith)
 
-  pub urgent_tells :
-      (f g : Fault) → T (sound s f) → T (sound s g) → urgency_of s f ≡ urgency_of s g
-      → (f.number ≡ g.number) × (0 < f.number → f.place ≡ g.place)
-  urgent_tells f g a b e = by (sound_is f a) (sound_is g b)
-    where
-      by : (f.number ≡ 0) ⊎ Possible s f.number f.place → (g.number ≡ 0) ⊎ Possible s g.number g.place
-          → (f.number ≡ g.number) × (0 < f.number → f.place ≡ g.place)
-      by (inl h) (inl k) = (h ∙ sym k, λ some. omega arith)
-      by (inl h) (inr k) =
-          absurd (omega (arith, none_urgent f h, there_urgent g k, there_some g.number g.place k, e))
-      by (inr h) (inl k) =
-          absurd (omega (arith, none_urgent g k, there_urgent f h, there_some f.number f.place h, e))
-      by (inr h) (inr k) = there_one f.number f.place g.number g.place h k (sym (there_urgent f h) ∙ (e ∙ there_urgent g k))
+  pub same_fault : (f g : Fault) → f.number ≡ g.number → f.place ≡ g.place → f ≡ g
+  same_fault f g e d =
+      ap (λ (n : ℕ). record { number = n; place = f.place }) e ∙ ap (λ (p : ℕ). record { number = g.number; place = p }) d
+
+  pub urgent_tells : (f g : Option Fault) → T (sound s f) → T (sound s g) → urgency_of s f ≡ urgency_of s g → f ≡ g
+  urgent_tells None None a b e = refl
+  urgent_tells None (Some g) a b e =
+      absurd (omega (arith, none_urgent, there_urgent g, there_some g.number g.place (sound_is g b), e))
+  urgent_tells (Some f) None a b e =
+      absurd (omega (arith, none_urgent, there_urgent f, there_some f.number f.place (sound_is f a), e))
+  urgent_tells (Some f) (Some g) a b e =
+      let told : (f.number ≡ g.number) × (0 < f.number → f.place ≡ g.place) =
+      there_one f.number f.place g.number g.place (sound_is f a) (sound_is g b) (sym (there_urgent f) ∙ (e ∙ there_urgent g)) in
+      let some : Possible s f.number f.place = sound_is f a in
+      ap Some (same_fault f g told.0 (told.1 (omega (arith, some.least))))
 
 -- ---- the laws by themselves
 
 pub sooner_urgent :
-    (s : Source) (n p : ℕ) (f : Fault) → 24 ≤ n → n ≤ 26 → p ≤ length s.text → T (sound s f)
+    (s : Source) (n p : ℕ) (f : Option Fault) → 24 ≤ n → n ≤ 26 → p ≤ length s.text → T (sound s f)
     → (urgency_of s (sooner n p f) ≡ max (urgency s n p) (urgency_of s f)) × T (sound s (sooner n p f))
 sooner_urgent s n p f a b h k =
     let told : Tells s (sooner n p f) (max (urgency s n p) (urgency_of s f)) =
@@ -235,7 +232,7 @@ sooner_urgent s n p f a b h k =
     (told.urgent, told.safe)
 
 pub lowered_noted :
-    (s : Source) (b : Bool) (p : ℕ) (f : Fault) → p ≤ length s.text → T (sound s f)
+    (s : Source) (b : Bool) (p : ℕ) (f : Option Fault) → p ≤ length s.text → T (sound s f)
     → (urgency_of s (lowered b p f) ≡ noted s b p (urgency_of s f)) × T (sound s (lowered b p f))
 lowered_noted s b p f h k =
     let told : Tells s (lowered b p f) (noted s b p (urgency_of s f)) = lowered_tells s b h (sound_tells s f k) in

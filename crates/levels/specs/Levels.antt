@@ -1,7 +1,9 @@
 -- What a token does to a level, to the sort of the operand in progress and to the fault that was found, by the numbers of the token's class
 -- and of the mode. It is the survey (crates/text/specs/Survey.antt) taken apart, as the code has it.
 -- Assumes nothing: these are definitions.
-use Rattle.std.specs.Prelude.{ℕ, ◌-◌, Bool, false, ◌&&◌, ◌||◌, not, cond, List, [], ◌∷◌, length, get_or, eqb, ltb, leb}
+use Rattle.std.specs.Prelude.{ℕ, ◌-◌, Bool, true, false, ◌&&◌, ◌||◌, not, cond, List, [], ◌∷◌, length, get_or, eqb, ltb, leb, Option, None, Some}
+use Rattle.levels.specs.declared.Group.{Group}
+use Rattle.levels.specs.declared.Group.TheVariants.{Other, StepToken, Operand, Slash, Bar, Operator, Quoted, Round, Square}
 use Rattle.text.specs.declared.Fault.{Fault}
 use Rattle.text.specs.declared.Level.{Level}
 use Rattle.text.specs.declared.Sort.{Sort}
@@ -24,12 +26,15 @@ goes_on m = leb 12 m
 
 -- ---- classes in groups
 
--- 1 tokens of steps, 2 operands of one token, 3 slashes, 4 the bar, 5 operators and signs, 6 strings, 7 and 8 opening brackets; 0 the others
-abbrev pub groups : List ℕ
-groups = 7 ∷ 0 ∷ 8 ∷ 0 ∷ 1 ∷ 1 ∷ 1 ∷ 0 ∷ 1 ∷ 1 ∷ 1 ∷ 1 ∷ 0 ∷ 1 ∷ 6 ∷ 2 ∷ 2 ∷ 3 ∷ 3 ∷ 4 ∷ 5 ∷ 5 ∷ 5 ∷ 5 ∷ 5 ∷ 5 ∷ 5 ∷ 5 ∷ 5 ∷ 5 ∷ 5 ∷ 5 ∷ 5 ∷ 0 ∷ []
+-- what each class is grouped with, at its number
+abbrev pub groups : List Group
+groups =
+    Round ∷ Other ∷ Square ∷ Other ∷ StepToken ∷ StepToken ∷ StepToken ∷ Other ∷ StepToken ∷ StepToken ∷ StepToken ∷ StepToken ∷ Other ∷ StepToken
+    ∷ Quoted ∷ Operand ∷ Operand ∷ Slash ∷ Slash ∷ Bar ∷ Operator ∷ Operator ∷ Operator ∷ Operator ∷ Operator ∷ Operator ∷ Operator ∷ Operator ∷ Operator
+    ∷ Operator ∷ Operator ∷ Operator ∷ Operator ∷ Other ∷ []
 
-unfoldable pub group_of : ℕ → ℕ
-group_of k = get_or groups k 0
+unfoldable pub group_of : ℕ → Group
+group_of k = get_or groups k Other
 
 -- how strongly an operator binds, from `+` on
 abbrev pub tightnesses : List ℕ
@@ -62,66 +67,77 @@ unfoldable pub quoted : ℕ → Level → Level
 quoted m l = cond (eqb m 10) l (other_begun l)
 
 -- the level behind a token of a group, with an operator's tightness t; what follows it begins at p
-unfoldable pub level_in : ℕ → ℕ → ℕ → ℕ → Level → Level
-level_in g t m p l =
-    cond (eqb g 5) (operated t p l)
-    (cond (eqb g 1) (stepped m l)
-    (cond (eqb g 3) (slashed m l)
-    (cond (eqb g 2) (other_begun l)
-    (cond (eqb g 7) (grouped m l)
-    (cond (eqb g 8) (bracketed l)
-    (cond (eqb g 6) (quoted m l)
-    (cond (eqb g 4) (union_at p l) l)))))))
+unfoldable pub level_in : Group → ℕ → ℕ → ℕ → Level → Level
+level_in Other t m p l = l
+level_in StepToken t m p l = stepped m l
+level_in Operand t m p l = other_begun l
+level_in Slash t m p l = slashed m l
+level_in Bar t m p l = union_at p l
+level_in Operator t m p l = operated t p l
+level_in Quoted t m p l = quoted m l
+level_in Round t m p l = grouped m l
+level_in Square t m p l = bracketed l
 
 -- ---- the sort of the operand in progress, behind a token of class k
 
-unfoldable pub sort_in : ℕ → ℕ → ℕ → Sort → Sort
-sort_in g k m v =
-    cond ((eqb g 1 || eqb g 3) && is_due m) Nodes
-    (cond (eqb g 2 && eqb k 15) Numeral
-    (cond (eqb g 2 || (eqb g 6 && not (eqb m 10))) Unheld v))
+unfoldable pub sort_in : Group → ℕ → ℕ → Sort → Sort
+sort_in Other k m v = v
+sort_in StepToken k m v = cond (is_due m) Nodes v
+sort_in Operand k m v = cond (eqb k 15) Numeral Unheld
+sort_in Slash k m v = cond (is_due m) Nodes v
+sort_in Bar k m v = v
+sort_in Operator k m v = v
+sort_in Quoted k m v = cond (not (eqb m 10)) Unheld v
+sort_in Round k m v = v
+sort_in Square k m v = v
 
 -- ---- faults
 
 -- a fault with this number at p, unless a fault is there that is lower or as low
-unfoldable pub sooner : ℕ → ℕ → Fault → Fault
-sooner n p f =
-    cond (eqb f.number 0 || (ltb p f.place || (eqb p f.place && ltb n f.number))) (record { number = n; place = p }) f
+unfoldable pub sooner : ℕ → ℕ → Option Fault → Option Fault
+sooner n p None = Some (record { number = n; place = p })
+sooner n p (Some f) = cond (ltb p f.place || (eqb p f.place && ltb n f.number)) (Some (record { number = n; place = p })) (Some f)
 
 -- 26 at p, if the test holds
-unfoldable pub lowered : Bool → ℕ → Fault → Fault
+unfoldable pub lowered : Bool → ℕ → Option Fault → Option Fault
 lowered test p f = cond test (sooner 26 p f) f
 
--- a token's own fault, with this number if it is not 0
-unfoldable pub with_own : ℕ → ℕ → Fault → Fault
-with_own own p f = cond (eqb own 0) f (sooner own p f)
+-- a token's own fault, if it has one
+unfoldable pub with_own : Option ℕ → ℕ → Option Fault → Option Fault
+with_own None p f = f
+with_own (Some own) p f = sooner own p f
 
--- the number of a token's own fault: an unknown name or a prefix, an axis that is not held, too many digits, a variable; 0 for none
-unfoldable pub own_of : Source → ℕ → ℕ → ℕ
+-- the number of a token's own fault: an unknown name or a prefix, an axis that is not held, too many digits, a variable
+unfoldable pub own_of : Source → ℕ → ℕ → Option ℕ
 own_of s k b =
-    cond (eqb k 9) (cond (is_star s.text b) 0 (cond (has_prefix s.text b) 26 (cond (is_named s.names (word_at s.text b)) 0 24)))
-    (cond (eqb k 13) (cond (holds_axis (word_at s.text b)) 0 26)
-    (cond (eqb k 15) (cond (ltb most_digits (length (digits (number_at s.text b)))) 25 0)
-    (cond (eqb k 16) 26 0)))
+    cond (eqb k 9)
+    (cond (is_star s.text b) None (cond (has_prefix s.text b) (Some 26) (cond (is_named s.names (word_at s.text b)) None (Some 24))))
+    (cond (eqb k 13) (cond (holds_axis (word_at s.text b)) None (Some 26))
+    (cond (eqb k 15) (cond (ltb most_digits (length (digits (number_at s.text b)))) (Some 25) None)
+    (cond (eqb k 16) (Some 26) None)))
 
 -- what the last name before a `(` was, behind a token of class k that begins at b: a processing-instruction's byte, a function's number
 unfoldable pub name_in : Source → ℕ → ℕ → ℕ → ℕ
 name_in s k b n = cond (eqb k 11) b (cond (eqb k 12) (position function_names (word_at s.text b)) n)
 
 -- the fault behind a token of a group: its class is k, it begins at b and has this fault of its own, n is as in name_in before it
-unfoldable pub fault_in : ℕ → ℕ → ℕ → ℕ → Level → Sort → ℕ → ℕ → ℕ → Fault → Fault
-fault_in g k t m l v n b own f =
-    cond (eqb g 5) (cond (eqb k 21 && takes_sign m) (sign_faults lowered l f) (operator_faults lowered t l v f))
-    (cond (eqb g 1 || eqb g 2) (with_own own b f)
-    (cond (eqb g 3) (lowered (not (is_due m) && (goes_on m && not l.inpath)) l.m f)
-    (cond (eqb g 8) (lowered (not l.inpath) l.m f)
-    (cond (eqb g 6) (sooner 26 (cond (eqb m 10) n b) f)
-    (cond (eqb g 4) (lowered (not l.joined) l.m f) f)))))
+unfoldable pub fault_in : Group → ℕ → ℕ → ℕ → Level → Sort → ℕ → ℕ → Option ℕ → Option Fault → Option Fault
+fault_in Other k t m l v n b own f = f
+fault_in StepToken k t m l v n b own f = with_own own b f
+fault_in Operand k t m l v n b own f = with_own own b f
+fault_in Slash k t m l v n b own f = lowered (not (is_due m) && (goes_on m && not l.inpath)) l.m f
+fault_in Bar k t m l v n b own f = lowered (not l.joined) l.m f
+fault_in Operator k t m l v n b own f = cond (eqb k 21 && takes_sign m) (sign_faults lowered l f) (operator_faults lowered t l v f)
+fault_in Quoted k t m l v n b own f = sooner 26 (cond (eqb m 10) n b) f
+fault_in Round k t m l v n b own f = f
+fault_in Square k t m l v n b own f = lowered (not l.inpath) l.m f
 
 -- how urgent the fault is that was found
-unfoldable pub urgency_of : Source → Fault → ℕ
-urgency_of s f = cond (eqb f.number 0) 0 (urgency s f.number f.place)
+unfoldable pub urgency_of : Source → Option Fault → ℕ
+urgency_of s None = 0
+urgency_of s (Some f) = urgency s f.number f.place
 
 -- no fault, or a number from 24 to 26 and a byte of the text
-unfoldable pub sound : Source → Fault → Bool
-sound s f = eqb f.number 0 || (leb 24 f.number && (leb f.number 26 && leb f.place (length s.text)))
+unfoldable pub sound : Source → Option Fault → Bool
+sound s None = true
+sound s (Some f) = leb 24 f.number && (leb f.number 26 && leb f.place (length s.text))

@@ -1,7 +1,8 @@
 -- The answer of the reader from what its parts find: a bad list of names, what is wrong in the text, and what is composed of it.
 -- Assumes nothing.
 use Prim.Native.Nat.{ℕ, ◌<◌}
-use mathlib.Core.Path.{◌≡◌, refl, sym, ◌∙◌, ap}
+use mathlib.Core.Path.{◌≡◌, refl, sym, ◌∙◌, ap, subst}
+use Rattle.std.specs.Prelude.{Option, None, Some}
 use mathlib.Core.Bool.{Bool, true, false}
 use mathlib.Core.List.{List, [], ◌∷◌}
 use native.Mathlib.Omega.{arith}
@@ -25,16 +26,24 @@ use Rattle.text.proofs.Surveying.Least.{InText, AllInText, least_in_text, faults
 use Rattle.reader.specs.Handing.{Clean, handed}
 
 -- the lowest fault is given, if there is one
-fault_given :
-    (fs : List Fault) (next : Answer) → ((lowest_of fs).number ≡ 0 → ⊥) → fault_check fs next ≡ answer (lowest_of fs).number (lowest_of fs).place
+fault_given : (fs : List Fault) (next : Answer) (x : Fault) → lowest_of fs ≡ Some x → fault_check fs next ≡ answer x.number x.place
 unfolding fault_check lowest_of
-fault_given [] next h = absurd (h refl)
-fault_given (f ∷ fs) next h = refl
+fault_given [] next x e = cc
+fault_given (f ∷ fs) next x e = let same : least f fs ≡ x = cc in ap (λ (g : Fault). answer g.number g.place) same
 
-none_given : (s : Source) (fs : List Fault) → AllInText s fs → (lowest_of fs).number ≡ 0 → fs ≡ []
+none_given : (fs : List Fault) → lowest_of fs ≡ None → fs ≡ []
 unfolding lowest_of
-none_given s [] h e = refl
-none_given s (f ∷ fs) h e = let w : InText s (least f fs) = least_in_text s f fs h in absurd (omega (arith, w.from_24, e))
+none_given [] e = refl
+none_given (f ∷ fs) e = cc
+
+-- and has a number
+some_numbered : (s : Source) (fs : List Fault) (x : Fault) → AllInText s fs → lowest_of fs ≡ Some x → x.number ≡ 0 → ⊥
+unfolding lowest_of
+some_numbered s [] x h e z = cc
+some_numbered s (f ∷ fs) x h e z =
+    let same : least f fs ≡ x = cc in
+    let w : InText s x = subst (InText s) same (least_in_text s f fs h) in
+    omega (arith, w.from_24, z)
 
 module _ (text list : List ℕ) (room literalRoom : ℕ) where
   -- the names are refused first
@@ -45,33 +54,54 @@ module _ (text list : List ℕ) (room literalRoom : ℕ) where
 
   -- then what is wrong in the text
   pub found_refused :
-      (f : Form) → bad_names (names_of list) ≡ false → ((found f text list).number ≡ 0 → ⊥)
-      → reading f text list room literalRoom ≡ answer (found f text list).number (found f text list).place
+      (f : Form) (x : Fault) → bad_names (names_of list) ≡ false → found f text list ≡ Some x
+      → reading f text list room literalRoom ≡ answer x.number x.place
   unfolding reading form_checks found
-  found_refused (outside p) e h = rw e
-  found_refused (inside x) e h = rw e (fault_given (text_faults (source text list) x) _ h)
+  found_refused (outside p) x e h = rw e (let same : record { number = 23; place = p } ≡ x = cc in ap (λ (g : Fault). answer g.number g.place) same)
+  found_refused (inside y) x e h = rw e (fault_given (text_faults (source text list) y) _ x h)
+
+-- of a text that is accepted, or that isn't, the form
+accepted_form : (text list : List ℕ) {x : Option Fault} → accepts (classes_of text) ≡ true → found (form_of text) text list ≡ x
+    → lowest_of (text_faults (source text list) (syntax_of (classes_of text))) ≡ x
+unfolding found
+accepted_form text list e h = ap (λ (f : Form). found f text list) (sym (form_accepted text e)) ∙ h
+
+refused_form : (text list : List ℕ) {x : Option Fault} → accepts (classes_of text) ≡ false → found (form_of text) text list ≡ x
+    → Some (record { number = 23; place = byte_of text (readable start (classes_of text)) }) ≡ x
+unfolding found form_of
+refused_form text list e h =
+    let f : form_of text ≡ outside (byte_of text (readable start (classes_of text))) = rw e in
+    ap (λ (x : Form). found x text list) (sym f) ∙ h
+
+all_in_text : (text list : List ℕ) → accepts (classes_of text) ≡ true
+    → AllInText (source text list) (text_faults (source text list) (syntax_of (classes_of text)))
+all_in_text text list e = faults_in_text text list ((accepts_exactly (classes_of text)).0 (rw e tt))
 
 -- nothing is wrong: the text is of the grammar, and without faults
-pub nothing_found : (text list : List ℕ) → (found (form_of text) text list).number ≡ 0 → Clean text list
-unfolding found form_of
+pub nothing_found : (text list : List ℕ) → found (form_of text) text list ≡ None → Clean text list
 nothing_found text list h = decide (accepts (classes_of text)) refl
   where
     decide : (b : Bool) → accepts (classes_of text) ≡ b → Clean text list
+    decide true e = record {
+      accepted = e;
+      formed = form_accepted text e;
+      faultless = none_given (text_faults (source text list) (syntax_of (classes_of text))) (accepted_form text list e h);
+    }
+    decide false e = let none = refused_form text list e h in cc
+
+-- what is wrong has a number
+pub found_numbered : (text list : List ℕ) (x : Fault) → found (form_of text) text list ≡ Some x → x.number ≡ 0 → ⊥
+found_numbered text list x h z = decide (accepts (classes_of text)) refl
+  where
+    decide : (b : Bool) → accepts (classes_of text) ≡ b → ⊥
     decide true e =
-        let f : form_of text ≡ inside (syntax_of (classes_of text)) = form_accepted text e in
-        record {
-          accepted = e;
-          formed = f;
-          faultless =
-              none_given (source text list) (text_faults (source text list) (syntax_of (classes_of text)))
-              (faults_in_text text list ((accepts_exactly (classes_of text)).0 (rw e tt)))
-              (ap (λ (x : Form). (found x text list).number) (sym f) ∙ h);
-        }
+        some_numbered (source text list) (text_faults (source text list) (syntax_of (classes_of text))) x
+        (all_in_text text list e) (accepted_form text list e h) z
     decide false e =
-        let f : form_of text ≡ outside (byte_of text (readable start (classes_of text))) = rw e in
-        let n : ℕ = (found (outside (byte_of text (readable start (classes_of text)))) text list).number in
-        let z : n ≡ 0 = ap (λ (x : Form). (found x text list).number) (sym f) ∙ h in
-        absurd (omega (arith, z))
+        let some = refused_form text list e h in
+        let same : record { number = 23; place = byte_of text (readable start (classes_of text)) } ≡ x = cc in
+        let n : 23 ≡ x.number = ap (λ (g : Fault). g.number) same in
+        omega arith
 
 module _ (text list : List ℕ) (room literalRoom : ℕ) where
   -- then the limits and the rooms

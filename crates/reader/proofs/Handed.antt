@@ -5,6 +5,7 @@ use mathlib.Core.Path.{◌≡◌, refl, sym, ◌∙◌, ap, subst}
 use mathlib.Core.Bool.{Bool, true, false, cond, true≢false}
 use mathlib.Core.Logic.{⊎_elim}
 use mathlib.Core.List.{List, ◌++◌}
+use Rattle.std.specs.Prelude.{Some}
 use native.Mathlib.Omega.{arith}
 use lib.Dec.{ltb}
 use lib.ListN.{length, take, drop, take-append-drop}
@@ -40,7 +41,7 @@ use Rattle.compose.specs.declared.Composed.{Composed}
 use Rattle.compose.specs.Composes.{Composes, committed, draft_at}
 use Rattle.compose.specs.Words.{Plain}
 use Rattle.reader.specs.Handing.{Clean, handed, literals_told, Hands}
-use Rattle.reader.proofs.Answered.{names_refused, found_refused, clean_reading, many_handed}
+use Rattle.reader.proofs.Answered.{names_refused, found_refused, found_numbered, clean_reading, many_handed}
 
 -- ---- handing over
 
@@ -239,11 +240,9 @@ module _ (text list rows : List ℕ) (out : List Float) (n p count : ℕ) where
 
   -- what is wrong in the text
   pub reads_wrong :
-      (x : Fault) → x ≡ found (form_of text) text list → bad_names (names_of list) ≡ false → (x.number ≡ 0 → ⊥) → n ≡ x.number → p ≡ x.place
-      → count ≡ 0 → ReadsPath text list rows out (answer n p) count rows out
-  reads_wrong x e fine b hn hp hc =
+      (x : Fault) → found (form_of text) text list ≡ Some x → bad_names (names_of list) ≡ false → n ≡ x.number → p ≡ x.place → count ≡ 0
+      → ReadsPath text list rows out (answer n p) count rows out
+  reads_wrong x e fine hn hp hc =
       rw (hn, hp, hc)
       (reads_refused text list rows out (answer x.number x.place)
-      (sym (found_refused text list (length rows) (length out) (form_of text) fine (λ z. b (ap (λ (f : Fault). f.number) e ∙ z))
-      ∙ ap (λ (f : Fault). answer f.number f.place) (sym e)))
-      b)
+      (sym (found_refused text list (length rows) (length out) (form_of text) x fine e)) (found_numbered text list x e))

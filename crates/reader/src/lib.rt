@@ -110,8 +110,14 @@ fn read_clean(
     )
 }
 
-// What is wrong in a text.
-fn survey_all(text: &[u8], list: &[u8], heads: &[u16], nexts: &[u16], starts: &[usize]) -> Fault
+// What is wrong in a text, if anything is.
+fn survey_all(
+    text: &[u8],
+    list: &[u8],
+    heads: &[u16],
+    nexts: &[u16],
+    starts: &[usize],
+) -> Option<Fault>
     requires { Indexed list.now heads.now nexts.now starts.now }
     ensures { result ≡ found (form_of text.now) text.now list.now }
 {
@@ -136,8 +142,7 @@ fn read_indexed(
     if bad != 0 {
         return refusal(22, bad);
     }
-    let wrong = survey_all(text, list, heads, nexts, starts);
-    if wrong.number != 0 {
+    if let Some(wrong) = survey_all(text, list, heads, nexts, starts) {
         return refusal(wrong.number, wrong.place);
     }
     read_clean(text, list, heads, nexts, starts, rows, literals)

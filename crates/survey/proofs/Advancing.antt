@@ -7,6 +7,7 @@ use mathlib.Core.Bool.{Bool, true, false, not, cond, true≢false}
 use mathlib.Core.List.{List, []}
 use mathlib.Core.Logic.{⊎_elim}
 use native.Mathlib.Omega.{arith}
+use Rattle.std.specs.Prelude.{Option}
 use lib.Dec.{T, eqb}
 use lib.ListN.{length}
 use Rattle.meaning.proofs.Bools.{lt_or_ge}
@@ -21,13 +22,12 @@ use Rattle.text.specs.Forms.{form_of, found}
 use Rattle.text.specs.Survey.{fresh, survey}
 use Rattle.text.proofs.Cutting.{cut_start, byte_place}
 use Rattle.modes.specs.Acts.{act_number, act_of}
-use Rattle.levels.specs.Levels.{own_of, urgency_of}
-use Rattle.levels.proofs.Urgent.{none_sound}
+use Rattle.levels.specs.Levels.{own_of, urgency_of, sound}
 use Rattle.survey.specs.declared.walk.State.{State}
 use Rattle.survey.specs.declared.look.Seen.{Seen}
 use Rattle.survey.specs.Window.{span, level_at, stored}
 use Rattle.survey.specs.Looking.{Known, Sees}
-use Rattle.survey.specs.Standing.{trail, trail_of, Goes, Reads, at_start, refusal, level_past, gone_on, opened_by, Opens, taken, is_bracketed, left_by, parted_by, last_fault, Placed, Standing, Closing, Ready, Surveyed, Advanced}
+use Rattle.survey.specs.Standing.{trail, trail_of, Goes, Reads, at_start, refusal, level_past, gone_on, opened_by, Opens, taken, is_bracketed, left_by, parted_by, last_fault, Standing, Closing, Ready, Surveyed, Advanced}
 use Rattle.survey.proofs.Stored.{holds_none}
 use Rattle.survey.proofs.Retrace.{byte_behind}
 use Rattle.survey.proofs.Taking.{taken_some}
@@ -70,7 +70,7 @@ module _ (text list w : List ℕ) (n : length w ≡ 4 * span) where
   trails_first = ap (λ (p : ℕ). trail 0 (fresh 0 p) [] 0) first
 
   standing_start : Standing text list w (at_start (run_end 0 text 0))
-  unfolding Goes run is_stuck read_all urgency_of Placed
+  unfolding Goes run is_stuck read_all urgency_of sound
   standing_start = record {
     cut = cut_start text;
     goes = refl;
@@ -84,8 +84,7 @@ module _ (text list w : List ℕ) (n : length w ≡ 4 * span) where
     least = omega arith;
     most = omega arith;
     size = n;
-    sounds = none_sound (source text list) (record { number = 0; place = 0 }) refl;
-    placed = λ _. refl;
+    sounds = tt;
   }
 
   pub surveyed_start : (s : State) → s ≡ at_start (run_end 0 text 0) → Surveyed text list w s
@@ -158,22 +157,22 @@ module _
 
     -- it leads to a mode
     pub advanced_goes :
-        (r : State) (own : ℕ) → own ≡ own_of (source text list) t.kind t.begin → t.act < 15 → r ≡ gone_on text own s t
+        (r : State) (own : Option ℕ) → own ≡ own_of (source text list) t.kind t.begin → t.act < 15 → r ≡ gone_on text own s t
         → Advanced text list w s.count r
     unfolding gone_on
     advanced_goes r own o less e =
-        subst⁻¹ (Advanced text list w s.count) (e ∙ ap (λ (n : ℕ). gone_on text n s t) o)
+        subst⁻¹ (Advanced text list w s.count) (e ∙ ap (λ (n : Option ℕ). gone_on text n s t) o)
         (goes_on text list w s.count (gone_on text (own_of (source text list) t.kind t.begin) s t)
         (standing_goes h known class on less) refl refl)
 
     -- it opens a level
     pub advanced_enters :
-        (r : State) (own : ℕ) (w' : List ℕ) → own ≡ own_of (source text list) t.kind t.begin → 15 ≤ t.act → t.act < 18
+        (r : State) (own : Option ℕ) (w' : List ℕ) → own ≡ own_of (source text list) t.kind t.begin → 15 ≤ t.act → t.act < 18
         → (r ≡ opened_by own s t) × (w' ≡ stored w s.depth (level_past s t)) → Advanced text list w' s.count r
     unfolding opened_by
     advanced_enters r own w' o least most (e, d) =
         subst⁻¹ (λ (u : List ℕ). Advanced text list u s.count r) d
-        (subst⁻¹ (Advanced text list (stored w s.depth (level_past s t)) s.count) (e ∙ ap (λ (n : ℕ). opened_by n s t) o)
+        (subst⁻¹ (Advanced text list (stored w s.depth (level_past s t)) s.count) (e ∙ ap (λ (n : Option ℕ). opened_by n s t) o)
         (goes_on text list (stored w s.depth (level_past s t)) s.count (opened_by (own_of (source text list) t.kind t.begin) s t)
         (standing_enters h known class on least most) refl refl))
 

@@ -4,7 +4,7 @@ use Prim.Native.Nat.{ℕ, suc, ◌≤◌, ◌<◌}
 use mathlib.Core.Path.{◌≡◌, refl, sym, ◌∙◌, ap, subst}
 use mathlib.Core.Bool.{Bool, true, false, ◌&&◌, ◌||◌, cond}
 use mathlib.Core.List.{List, [], ◌∷◌}
-use mathlib.Core.Logic.{◌⊎◌, inl, inr}
+use Rattle.std.specs.Prelude.{Option, None, Some}
 use native.Mathlib.Omega.{arith}
 use lib.Dec.{T, eqb, leb, eqb→eq}
 use lib.ListN.{length, take}
@@ -29,13 +29,13 @@ use Rattle.text.proofs.Surveying.Survey.{survey_right}
 use Rattle.text.proofs.Surveying.Least.{InText, AllInText, worst_least, least_in_text, urgency_positive, urgency_tells, faults_in_text}
 use Rattle.levels.specs.Levels.{lowered, urgency_of}
 use Rattle.levels.proofs.Modes.{mode_at, fourteen}
-use Rattle.levels.proofs.Urgent.{Possible, Tells, sound_is, none_urgent, there_urgent, sound_tells, end_faults_tell}
+use Rattle.levels.proofs.Urgent.{Possible, Tells, sound_is, none_urgent, there_urgent, same_fault, sound_tells, end_faults_tell}
 use Rattle.levels.proofs.Nesting.{brackets_of}
 use Rattle.modes.proofs.Table.{every, at}
 use Rattle.survey.specs.declared.walk.State.{State}
 use Rattle.survey.specs.Window.{bit}
-use Rattle.survey.specs.Standing.{refusal, last_fault, Placed, Standing}
-use Rattle.survey.proofs.Standing.{placed_ends, goes_is, left_of, machine}
+use Rattle.survey.specs.Standing.{refusal, last_fault, Standing}
+use Rattle.survey.proofs.Standing.{goes_is, left_of, machine}
 
 -- ---- the lowest fault, by how urgent it is
 
@@ -43,29 +43,18 @@ module _ (s : Source) where
   possible_in_text : (f : Fault) → Possible s f.number f.place → InText s f
   possible_in_text f p = record { from_24 = p.least; to_26 = p.most; within = p.within }
 
-  same_fault : (f g : Fault) → f.number ≡ g.number → f.place ≡ g.place → f ≡ g
-  same_fault f g e d =
-      ap (λ (n : ℕ). record { number = n; place = f.place }) e ∙ ap (λ (p : ℕ). record { number = g.number; place = p }) d
-
-  pub told_lowest : (f : Fault) (fs : List Fault) → AllInText s fs → Tells s f (worst s fs) → Placed f → f ≡ lowest_of fs
-  unfolding lowest_of worst Placed
-  told_lowest f [] all told placed = by (sound_is s f told.safe)
-    where
-      by : (f.number ≡ 0) ⊎ Possible s f.number f.place → f ≡ record { number = 0; place = 0 }
-      by (inl e) = same_fault f (record { number = 0; place = 0 }) e (placed e)
-      by (inr p) = absurd (omega (arith, there_urgent s f p, told.urgent, urgency_positive s f (possible_in_text f p)))
-  told_lowest f (g ∷ gs) all told placed = by (sound_is s f told.safe)
-    where
-      inside : InText s (least g gs)
-      inside = least_in_text s g gs all
-
-      by : (f.number ≡ 0) ⊎ Possible s f.number f.place → f ≡ least g gs
-      by (inl e) = absurd (omega (arith, none_urgent s f e, told.urgent, worst_least s g gs all, urgency_positive s (least g gs) inside))
-      by (inr p) =
-          let tells =
-          urgency_tells s f (least g gs) (possible_in_text f p) inside
-          (sym (there_urgent s f p) ∙ (told.urgent ∙ worst_least s g gs all)) in
-          same_fault f (least g gs) tells.0 tells.1
+  pub told_lowest : (f : Option Fault) (fs : List Fault) → AllInText s fs → Tells s f (worst s fs) → f ≡ lowest_of fs
+  unfolding lowest_of worst
+  told_lowest None [] all told = refl
+  told_lowest (Some f) [] all told =
+      absurd (omega (arith, there_urgent s f, told.urgent, urgency_positive s f (possible_in_text f (sound_is s f told.safe))))
+  told_lowest None (g ∷ gs) all told =
+      absurd (omega (arith, none_urgent s, told.urgent, worst_least s g gs all, urgency_positive s (least g gs) (least_in_text s g gs all)))
+  told_lowest (Some f) (g ∷ gs) all told =
+      let tells =
+      urgency_tells s f (least g gs) (possible_in_text f (sound_is s f told.safe)) (least_in_text s g gs all)
+      (sym (there_urgent s f) ∙ (told.urgent ∙ worst_least s g gs all)) in
+      ap Some (same_fault s f (least g gs) tells.0 tells.1)
 
 -- ---- where an operand is whole
 
@@ -121,7 +110,7 @@ module _ {text list w : List ℕ} {s : State} (h : Standing text list w s) (last
       ∙ ap (λ (d : ℕ). is_whole s.mode && eqb d 0) (sym h.deep))))
 
   -- the fault behind the whole text, and how urgent the survey has it
-  abbrev ended : Fault
+  abbrev ended : Option Fault
   ended = end_faults lowered s.level s.sort s.fault
 
   abbrev urgent : ℕ
@@ -147,7 +136,6 @@ module _ {text list w : List ℕ} {s : State} (h : Standing text list w s) (last
       let worsts : urgent ≡ worst (source text list) faults =
       sym ends_surveyed ∙ survey_right (source text list) (source_ascends text list) (classes_of text) d in
       told_lowest (source text list) ended faults (faults_in_text text list d) (subst (Tells (source text list) ended) worsts ends_tell)
-      (placed_ends s.level s.sort s.fault h.placed)
 
   pub standing_ends : last_fault (length text) s ≡ found (form_of text) text list
   unfolding last_fault found is_whole

@@ -3,7 +3,7 @@
 -- Assumes nothing.
 use Prim.Native.Nat.{ℕ, suc, ◌+◌, ◌-◌, ◌≤◌, ◌<◌}
 use mathlib.Core.Path.{◌≡◌, refl, sym, ◌∙◌, ap, subst, subst⁻¹}
-use mathlib.Core.Bool.{Bool, true, false, ◌&&◌, ◌||◌, not, cond}
+use mathlib.Core.Bool.{Bool, true, false, not, cond}
 use mathlib.Core.List.{List, [], ◌∷◌}
 use native.Mathlib.Omega.{arith}
 use native.Mathlib.Numerals.{add-one}
@@ -11,73 +11,33 @@ use lib.Dec.{T, eqb, ltb, eqb→eq}
 use lib.ListN.{length, take}
 use borrow.Author.Tests.{ltb-true, eqb-true, eqb-false}
 use Rattle.meaning.proofs.Bools.{and_l}
-use Rattle.text.specs.declared.Fault.{Fault}
 use Rattle.text.specs.declared.Level.{Level}
-use Rattle.text.specs.declared.Sort.{Sort}
 use Rattle.text.specs.Tokens.{class_of, classes_of}
 use Rattle.text.specs.Machine.{State, reading, next, run, start, is_stuck, rows, pick}
 use Rattle.text.specs.Limited.{source, place}
 use Rattle.text.specs.Reading.{Form}
 use Rattle.text.specs.Forms.{form_of, found}
-use Rattle.text.specs.Survey.{fresh, Survey, survey_token, unread, operator_faults, sign_faults, end_faults}
+use Rattle.text.specs.Survey.{fresh, Survey, survey_token, unread}
 use Rattle.text.proofs.Cutting.{Stands, cut_place, byte_place}
 use Rattle.text.proofs.Forms.{form_refused}
 use Rattle.text.proofs.Lexemes.{run_behind, run_within}
 use Rattle.modes.specs.Acts.{act_of}
-use Rattle.levels.specs.Levels.{group_of, tightness_of, name_in, own_of, fault_in, sooner, lowered, with_own, takes_sign}
+use Rattle.levels.specs.Levels.{group_of, tightness_of, name_in, own_of}
 use Rattle.levels.proofs.Modes.{mode_at}
 use Rattle.levels.proofs.Acting as A
 use Rattle.levels.proofs.Nesting.{brackets_of, is_bracket, nested, bracket_closes, brackets_stand}
 use Rattle.levels.proofs.Nesting as N
-use Rattle.levels.proofs.Steps.{arity_in, token_goes, token_enters, token_leaves, token_parts}
+use Rattle.levels.proofs.Steps.{token_goes, token_enters, token_leaves, token_parts}
 use Rattle.survey.specs.declared.walk.State as W
 use Rattle.survey.specs.declared.look.Seen.{Seen}
 use Rattle.survey.specs.Window.{span, level_at, stored, Holds}
 use Rattle.survey.specs.Looking.{Known}
-use Rattle.survey.specs.Standing.{trail, name_at, trailed, trail_of, Goes, Small, Smalls, one, Left, Refilled, refusal, level_past, fault_past, gone_on, lowest, opened_by, Called, Opens, taken, is_bracketed, left_by, parted_by, Placed, surveyed_to, survey_of, Standing, Closing, Ready}
+use Rattle.survey.specs.Standing.{trail, name_at, trailed, trail_of, Goes, Small, Smalls, one, Left, Refilled, refusal, level_past, fault_past, gone_on, lowest, opened_by, Called, Opens, taken, is_bracketed, left_by, parted_by, surveyed_to, survey_of, Standing, Closing, Ready}
 use Rattle.survey.specs.Standing as S
 use Rattle.survey.proofs.Stored.{stored_length, holds_opened, holds_closed, holds_top}
 use Rattle.survey.proofs.Trail.{small_kept, table_says, trailed_goes, trailed_opens, trailed_parts, trailed_closes, trail_is_left}
 use Rattle.survey.proofs.Retrace.{byte_behind, cut_behind, trail_next}
 use Rattle.survey.proofs.Taking.{act_stuck, taken_some, taken_whole, run_next, read_next}
-
--- ---- the number 0 stands at byte 0
-
-choose : (P : Fault → Type 0) (b : Bool) {x y : Fault} → (b ≡ true → P x) → (b ≡ false → P y) → P (cond b x y)
-choose P true h k = h refl
-choose P false h k = k refl
-
-placed_sooner : (n p : ℕ) (f : Fault) → (n ≡ 0 → ⊥) → Placed f → Placed (sooner n p f)
-unfolding sooner Placed
-placed_sooner n p f some h =
-    choose Placed (eqb f.number 0 || (ltb p f.place || (eqb p f.place && ltb n f.number))) (λ _ e. absurd (some e)) (λ _. h)
-
-pub placed_lowered : (b : Bool) (p : ℕ) (f : Fault) → Placed f → Placed (lowered b p f)
-unfolding lowered
-placed_lowered true p f h = placed_sooner 26 p f (λ e. omega arith) h
-placed_lowered false p f h = h
-
-pub placed_ends : (l : Level) (v : Sort) (f : Fault) → Placed f → Placed (end_faults lowered l v f)
-unfolding end_faults
-placed_ends l v f h = placed_lowered _ _ _ (placed_lowered _ _ _ h)
-
-placed_in :
-    (g k t m : ℕ) (l : Level) (v : Sort) (n b own : ℕ) (f : Fault) → Placed f → Placed (fault_in g k t m l v n b own f)
-unfolding fault_in with_own operator_faults sign_faults
-placed_in g k t m l v n b own f h =
-    choose Placed (eqb g 5)
-    (λ _.
-    choose Placed (eqb k 21 && takes_sign m) (λ _. placed_lowered _ _ _ h)
-    (λ _. placed_lowered _ _ _ (placed_lowered _ _ _ (placed_lowered _ _ _ (placed_lowered _ _ _ h)))))
-    (λ _.
-    choose Placed (eqb g 1 || eqb g 2) (λ _. choose Placed (eqb own 0) (λ _. h) (λ e. placed_sooner own b f (eqb-false own 0 e) h))
-    (λ _.
-    choose Placed (eqb g 3) (λ _. placed_lowered _ _ _ h)
-    (λ _.
-    choose Placed (eqb g 8) (λ _. placed_lowered _ _ _ h)
-    (λ _.
-    choose Placed (eqb g 6) (λ _. placed_sooner 26 _ f (λ e. omega arith) h)
-    (λ _. choose Placed (eqb g 4) (λ _. placed_lowered _ _ _ h) (λ _. h))))))
 
 -- ---- the window's levels are those of the trail
 
@@ -219,7 +179,6 @@ module _ {text list w : List ℕ} {s : W.State} (h : Standing text list w s) whe
           most = h.most;
           size = h.size;
           sounds = step.1;
-          placed = placed_in _ _ _ _ _ _ _ _ _ _ h.placed;
         }
 
     -- ---- a token that opens a level
@@ -284,7 +243,6 @@ module _ {text list w : List ℕ} {s : W.State} (h : Standing text list w s) whe
           most = omega (arith, lowest_fits.2);
           size = stored_length w s.depth (level_past s t) ∙ h.size;
           sounds = step.1;
-          placed = placed_in _ _ _ _ _ _ _ _ _ _ h.placed;
         }
 
     -- ---- a token that closes a level or parts two arguments
@@ -371,8 +329,6 @@ module _ {text list w : List ℕ} {s : W.State} (h : Standing text list w s) whe
               most = omega (arith, ready.most);
               size = ready.size;
               sounds = step.1;
-              placed =
-                  placed_lowered _ _ _ (choose Placed (eqb (arity_in s.mode) 0) (λ _. h.placed) (λ _. placed_ends _ _ _ h.placed));
             }
 
         standing_parts : t.act ≡ 20 → Standing text list v (parted_by s t low outer)
@@ -400,7 +356,6 @@ module _ {text list w : List ℕ} {s : W.State} (h : Standing text list w s) whe
               most = ready.most;
               size = ready.size;
               sounds = step.1;
-              placed = placed_lowered _ _ _ (placed_ends _ _ _ h.placed);
             }
 
         pub standing_closes : Standing text list v (cond (eqb t.act 20) (parted_by s t low outer) (left_by s t low outer))

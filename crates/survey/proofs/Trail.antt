@@ -14,6 +14,8 @@ use lib.ListN.{length, get_or, take}
 use lib.Seq.{take-suc}
 use mathlib.Core.Logic.{⊎_elim}
 use Rattle.meaning.proofs.Bools.{and_l, and_r, lt_or_ge}
+use Rattle.levels.specs.declared.Group.{Group}
+use Rattle.levels.specs.declared.Group.TheVariants.{Other, StepToken, Operand, Slash, Bar, Operator, Quoted, Round, Square}
 use Rattle.text.specs.declared.Level.{Level}
 use Rattle.text.specs.Grammar.{Token, opening, closing, '[', ']', dot, dots, at, comma, '::', NameTest, NodeType, 'processing_instruction', FunctionName, AxisName, Literal, Number, VariableReference, '/', '//', '|', '+', '-', '=', '!=', '<', '<=', '>', '>=', MultiplyOperator, 'and', 'or', 'div', 'mod', unknown}
 use Rattle.text.specs.Reading.{byte_of}
@@ -50,18 +52,18 @@ choose P false h k = k
 
 -- what every change of a level keeps, its tokens keep
 level_in_lem :
-    (P : Level → Type 0) (g t q p : ℕ) (l : Level) → P l → P (path_begun l) → P (path_begun (joined_on l)) → P (joined_on l) → P (other_begun l)
-    → P (union_at p l) → P (operated t p l) → P (level_in g t q p l)
+    (P : Level → Type 0) (g : Group) (t q p : ℕ) (l : Level) → P l → P (path_begun l) → P (path_begun (joined_on l)) → P (joined_on l)
+    → P (other_begun l) → P (union_at p l) → P (operated t p l) → P (level_in g t q p l)
 unfolding level_in stepped slashed grouped bracketed quoted
-level_in_lem P g t q p l h hp hpj hj ho hu hk =
-    choose P (eqb g 5) hk
-    (choose P (eqb g 1) (choose P (is_due q) hp h)
-    (choose P (eqb g 3) (choose P (is_due q) hp (choose P (goes_on q && not l.inpath) hpj h))
-    (choose P (eqb g 2) ho
-    (choose P (eqb g 7) (choose P (is_due q || eqb q 11) ho h)
-    (choose P (eqb g 8) (choose P l.inpath h hj)
-    (choose P (eqb g 6) (choose P (eqb q 10) h ho)
-    (choose P (eqb g 4) hu h)))))))
+level_in_lem P Other t q p l h hp hpj hj ho hu hk = h
+level_in_lem P StepToken t q p l h hp hpj hj ho hu hk = choose P (is_due q) hp h
+level_in_lem P Operand t q p l h hp hpj hj ho hu hk = ho
+level_in_lem P Slash t q p l h hp hpj hj ho hu hk = choose P (is_due q) hp (choose P (goes_on q && not l.inpath) hpj h)
+level_in_lem P Bar t q p l h hp hpj hj ho hu hk = hu
+level_in_lem P Operator t q p l h hp hpj hj ho hu hk = hk
+level_in_lem P Quoted t q p l h hp hpj hj ho hu hk = choose P (eqb q 10) h ho
+level_in_lem P Round t q p l h hp hpj hj ho hu hk = choose P (is_due q || eqb q 11) ho h
+level_in_lem P Square t q p l h hp hpj hj ho hu hk = choose P l.inpath h hj
 
 kind_operated : (t p : ℕ) (l : Level) → (operated t p l).kind ≡ l.kind
 unfolding operated
@@ -71,7 +73,7 @@ kind_operated t p l =
     P : Level → Type 0
     P o = o.kind ≡ l.kind
 
-pub kind_kept : (g t q p : ℕ) (l : Level) → (level_in g t q p l).kind ≡ l.kind
+pub kind_kept : (g : Group) (t q p : ℕ) (l : Level) → (level_in g t q p l).kind ≡ l.kind
 kind_kept g t q p l = level_in_lem (λ o. o.kind ≡ l.kind) g t q p l refl refl refl refl refl refl (kind_operated t p l)
 
 small_operated : (n t p : ℕ) (l : Level) → p ≤ n → Small n l → Small n (operated t p l)
@@ -82,7 +84,7 @@ small_operated n t p l b h =
     (choose (Small n) (eqb t 4) (record { kind = h.kind; rank = omega arith; e = h.e; g = h.g; m = b })
     (record { kind = h.kind; rank = omega (arith, h.rank); e = h.e; g = h.g; m = b })))
 
-pub small_kept : (n g t q p : ℕ) (l : Level) → p ≤ n → Small n l → Small n (level_in g t q p l)
+pub small_kept : (n : ℕ) (g : Group) (t q p : ℕ) (l : Level) → p ≤ n → Small n l → Small n (level_in g t q p l)
 small_kept n g t q p l b h =
     level_in_lem (Small n) g t q p l h
     (record { kind = h.kind; rank = h.rank; e = h.e; g = h.g; m = h.m })

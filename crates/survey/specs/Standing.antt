@@ -1,7 +1,7 @@
 -- Where a reading of a text stands behind its first k tokens: the trail of levels, which alone is read again; and with it the survey, the
 -- grammar's machine and the window.
 -- Assumes nothing: these are definitions.
-use Rattle.std.specs.Prelude.{ℕ, zero, suc, ◌+◌, ◌-◌, ◌*◌, ◌≤◌, ◌<◌, ◌≡◌, Bool, true, false, ◌&&◌, ◌||◌, not, cond, List, [], ◌∷◌, T, eqb, ltb, leb, length, get_or, take}
+use Rattle.std.specs.Prelude.{ℕ, zero, suc, ◌+◌, ◌-◌, ◌*◌, ◌≤◌, ◌<◌, ◌≡◌, Bool, true, false, ◌&&◌, ◌||◌, not, cond, List, [], ◌∷◌, T, eqb, ltb, leb, length, get_or, take, Option, None, Some}
 use Rattle.names.specs.Names.{position}
 use Rattle.text.specs.declared.Fault.{Fault}
 use Rattle.text.specs.declared.Level.{Level}
@@ -145,24 +145,24 @@ at_start p = record {
   name = 0;
   sort = Unheld;
   level = fresh 0 p;
-  fault = record { number = 0; place = 0 };
+  fault = None;
   ended = false;
 }
 
 -- the text is refused at this byte
-abbrev pub refusal : ℕ → Fault
-refusal p = record { number = 23; place = p }
+abbrev pub refusal : ℕ → Option Fault
+refusal p = Some (record { number = 23; place = p })
 
--- the level and the fault behind a token that leads to a mode or opens a level; the token has this fault of its own
+-- the level and the fault behind a token that leads to a mode or opens a level; the token may have a fault of its own
 unfoldable pub level_past : State → Seen → Level
 level_past s t = level_in (group_of t.kind) (tightness_of t.kind) s.mode t.behind s.level
 
-unfoldable pub fault_past : ℕ → State → Seen → Fault
+unfoldable pub fault_past : Option ℕ → State → Seen → Option Fault
 fault_past own s t =
     fault_in (group_of t.kind) t.kind (tightness_of t.kind) s.mode s.level s.sort s.name t.begin own s.fault
 
 -- behind a token that leads to a mode
-unfoldable pub gone_on : List ℕ → ℕ → State → Seen → State
+unfoldable pub gone_on : List ℕ → Option ℕ → State → Seen → State
 gone_on text own s t = record {
   count = s.count + 1;
   at = t.end;
@@ -182,7 +182,7 @@ unfoldable pub lowest : ℕ → ℕ → ℕ
 lowest depth low = cond (ltb (depth - low) span) low (low + 1)
 
 -- behind a token that opens a level
-unfoldable pub opened_by : ℕ → State → Seen → State
+unfoldable pub opened_by : Option ℕ → State → Seen → State
 opened_by own s t = record {
   count = s.count + 1;
   at = t.end;
@@ -253,15 +253,11 @@ parted_by s t low outer = record {
 }
 
 -- the fault at the end of a text of this length, which has to end where an operand is whole and no bracket is open
-unfoldable pub last_fault : ℕ → State → Fault
+unfoldable pub last_fault : ℕ → State → Option Fault
 last_fault n s =
     cond ((eqb s.mode 3 || leb 12 s.mode) && eqb s.depth 0) (end_faults lowered s.level s.sort s.fault) (refusal n)
 
 -- ---- the survey
-
--- the number 0 is no fault, and stands at byte 0
-unfoldable pub Placed : Fault → Type 0
-Placed f = f.number ≡ 0 → f.place ≡ 0
 
 -- the survey behind the first k tokens, and the one that a state stands for, with these levels around
 abbrev pub surveyed_to : List ℕ → List ℕ → ℕ → Survey
@@ -285,7 +281,6 @@ pub record Standing (text list w : List ℕ) (s : State) : Type 0 where
   pub most : s.depth ≤ s.low + span
   pub size : length w ≡ 4 * span
   pub sounds : T (sound (source text list) s.fault)
-  pub placed : Placed s.fault
 
 -- some levels are open, and the window may have to be filled again for the innermost of those around
 pub record Closing (text : List ℕ) (count depth low : ℕ) (w : List ℕ) : Type 0 where

@@ -24,23 +24,23 @@ fn name_fault(
     starts: &[usize],
     begin: usize,
     end: usize,
-) -> u32
+) -> Option<u32>
     requires { Indexed list.now heads.now nexts.now starts.now × Reads text.now 9 begin end }
     ensures { result ≡ own_of (source text.now list.now) 9 begin }
 {
     if is_star(text, begin) {
-        return 0;
+        return None;
     }
     if has_prefix(text, begin) {
-        return PREFIXED;
+        return Some(PREFIXED);
     }
     if number_of(list, heads, nexts, starts, text, begin, end) == 0 {
-        return UNKNOWN;
+        return Some(UNKNOWN);
     }
-    0
+    None
 }
 
-// The number of a token's own fault, or 0.
+// The number of a token's own fault, if it has one.
 pub fn own_fault(
     text: &[u8],
     list: &[u8],
@@ -50,7 +50,7 @@ pub fn own_fault(
     kind: usize,
     begin: usize,
     end: usize,
-) -> u32
+) -> Option<u32>
     requires { Indexed list.now heads.now nexts.now starts.now × Reads text.now kind begin end }
     ensures { result ≡ own_of (source text.now list.now) kind begin }
 {
@@ -59,17 +59,17 @@ pub fn own_fault(
     }
     if kind == 13 {
         if axis_number(text, begin, end) <= 11 {
-            return 0;
+            return None;
         }
-        return 26;
+        return Some(26);
     }
     if kind == 15 {
         if 15 < digit_count(text, begin, end) {
-            return 25;
+            return Some(25);
         }
-        return 0;
+        return None;
     }
-    if kind == 16 { 26 } else { 0 }
+    if kind == 16 { Some(26) } else { None }
 }
 
 // What the last name before a `(` was: a processing-instruction's byte, or a function's number.

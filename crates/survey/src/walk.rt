@@ -31,12 +31,12 @@ pub struct State {
     pub name: usize,
     pub sort: Sort,
     pub level: Level,
-    pub fault: Fault,
+    pub fault: Option<Fault>,
     pub ended: bool,
 }
 
 // The survey ends with this fault.
-fn ended(mut s: State, fault: Fault) -> State
+fn ended(mut s: State, fault: Option<Fault>) -> State
     ensures { (result.ended ≡ true) × (result.fault ≡ fault) }
 {
     s.fault = fault;
@@ -48,7 +48,7 @@ fn ended(mut s: State, fault: Fault) -> State
 fn refused(s: State, place: usize) -> State
     ensures { (result.ended ≡ true) × (result.fault ≡ refusal place) }
 {
-    ended(s, Fault { number: 23, place })
+    ended(s, Some(Fault { number: 23, place }))
 }
 
 // The level behind a token that leads to a mode or opens a level.
@@ -61,8 +61,8 @@ fn level_behind(s: State, t: Seen) -> Level
     level_in(group_of(kind), tightness_of(kind), s.mode, t.behind, level)
 }
 
-// The fault behind such a token, which has this fault of its own.
-fn fault_behind(s: State, t: Seen, own: u32) -> Fault
+// The fault behind such a token, which may have a fault of its own.
+fn fault_behind(s: State, t: Seen, own: Option<u32>) -> Option<Fault>
     requires { t.kind < 33 }
     ensures { result ≡ fault_past own s t }
 {
@@ -84,7 +84,7 @@ fn fault_behind(s: State, t: Seen, own: u32) -> Fault
 }
 
 // A token that opens and closes nothing.
-fn went(text: &[u8], s: State, t: Seen, own: u32) -> State
+fn went(text: &[u8], s: State, t: Seen, own: Option<u32>) -> State
     requires { Reads text.now t.kind t.begin t.end × (s.count < t.end) × (0 < t.act) }
     ensures { result ≡ gone_on text.now own s t }
 {
@@ -116,7 +116,7 @@ fn lowest(depth: usize, low: usize) -> usize
 }
 
 // A token that opens a level.
-fn entered(s: State, t: Seen, own: u32, window: &mut [usize]) -> State
+fn entered(s: State, t: Seen, own: Option<u32>, window: &mut [usize]) -> State
     requires { Opens s t × (length window.old ≡ 4 * span) }
     ensures { (result ≡ opened_by own s t) × (window.new ≡ stored window.old s.depth (level_past s t)) }
 {
@@ -185,7 +185,7 @@ fn arity_of(mode: usize) -> usize
 }
 
 // The fault behind a level that closes; outer is the level around.
-fn fault_closed(s: State, outer: Level) -> Fault
+fn fault_closed(s: State, outer: Level) -> Option<Fault>
     ensures { result ≡ fault_closed s.mode s.level outer s.sort s.fault }
 {
     let level = s.level;
@@ -308,7 +308,7 @@ fn advanced(
     closed(s, t, low, outer)
 }
 
-// What is found in a text: 23 with the byte at which it is refused, its lowest fault, or the number 0.
+// What is found in a text: 23 with the byte at which it is refused, or its lowest fault, if it has one.
 pub fn survey_text(
     text: &[u8],
     list: &[u8],
@@ -316,7 +316,7 @@ pub fn survey_text(
     nexts: &[u16],
     starts: &[usize],
     window: &mut [usize],
-) -> Fault
+) -> Option<Fault>
     requires { Indexed list.now heads.now nexts.now starts.now × (length window.old ≡ 4 * span) }
     ensures { result ≡ found (form_of text.now) text.now list.now }
 {
@@ -330,10 +330,7 @@ pub fn survey_text(
         name: 0,
         sort: Sort::Unheld,
         level: fresh(0, run_end(0, text, 0)),
-        fault: Fault {
-            number: 0,
-            place: 0,
-        },
+        fault: None,
         ended: false,
     };
     while !s.ended {

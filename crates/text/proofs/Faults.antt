@@ -1,6 +1,8 @@
 -- Faults of a text: what it says that there are none, of a construct's own checks, of its parts and of its number literals, whose values are
 -- good literals of document 01; and every fault has a number, so an answer of 0 says that there are none.
 -- Assumes nothing.
+use Rattle.text.specs.declared.Function.{Function}
+use Rattle.text.specs.declared.Function.TheVariants.{PositionCall, LastCall, CountCall, NotCall, BooleanCall, OtherCall}
 use Prim.Native.Nat.{ℕ, ◌<◌, ◌≤◌}
 use mathlib.Core.Path.{◌≡◌, refl, sym, subst⁻¹, ◌∙◌}
 use mathlib.Core.Bool.{Bool, true, false, cond, true≢false}
@@ -17,7 +19,7 @@ use Rattle.text.specs.Grammar.{Token}
 use Rattle.text.specs.Syntax.{Kind, word, number, string, variable, group, call, arguments, negative, binary, union, filter, onward, relative, absolute, chain, step, self, parent, axis, attribute, named, typed, instruction, target, predicates, is_kind, Syntax, blank, part}
 use Rattle.text.specs.Growing.{tightness}
 use Rattle.text.specs.declared.Fault.{Fault}
-use Rattle.text.specs.Limited.{Source, place, word_of, is_star, has_prefix, Function, position_function, last_function, count_function, not_function, boolean_function, other_function, function_of, is_held_call, holds_axis, number_at, digits, most_digits, value_at, is_path, sort, fault, number_taken, path_taken, as_number, as_path, name_faults, digit_faults, argument_faults, own, faults, text_faults, before, least}
+use Rattle.text.specs.Limited.{Source, place, word_of, is_star, has_prefix, function_of, is_held_call, holds_axis, number_at, digits, most_digits, value_at, is_path, sort, fault, number_taken, path_taken, as_number, as_path, name_faults, digit_faults, argument_faults, own, faults, text_faults, before, least}
 use Rattle.text.specs.Reading.{values, literals_of, fault_check}
 use Rattle.text.proofs.Literals.{GoodEach, Each, each_both, good_distinct}
 use Rattle.text.proofs.Values.{good_value}
@@ -96,12 +98,12 @@ module _ (s : Source) where
 
   argument_asked : (f : Function) (c : Syntax) → Numbered (argument_faults s f c)
   unfolding argument_faults
-  argument_asked position_function c = tt
-  argument_asked last_function c = tt
-  argument_asked count_function c = path_asked c
-  argument_asked not_function c = tt
-  argument_asked boolean_function c = tt
-  argument_asked other_function c = tt
+  argument_asked PositionCall c = tt
+  argument_asked LastCall c = tt
+  argument_asked CountCall c = path_asked c
+  argument_asked NotCall c = tt
+  argument_asked BooleanCall c = tt
+  argument_asked OtherCall c = tt
 
   name_asked : (i : ℕ) → Numbered (name_faults s i)
   unfolding name_faults

@@ -1,6 +1,8 @@
 -- A construct without faults is held as a tree that fits its place: numbers, truths and paths by its sort, steps behind steps, predicates
 -- behind predicates. First one law for each kind of construct, from its parts; then every production, and so every derivation.
 -- Assumes nothing.
+use Rattle.text.specs.declared.Function.{Function}
+use Rattle.text.specs.declared.Function.TheVariants.{PositionCall, LastCall, CountCall, NotCall, BooleanCall, OtherCall}
 use Prim.Native.Nat.{ℕ, suc, ◌+◌, ◌<◌, ◌≤◌}
 use mathlib.Core.Path.{◌≡◌, refl, sym, subst, ◌∙◌}
 use mathlib.Core.Logic.{inl, inr}
@@ -26,7 +28,7 @@ use Rattle.text.specs.Syntax.{Kind, number, string, variable, group, call, argum
 use Rattle.text.specs.Tokens as L
 use Rattle.text.specs.Growing.{tightness, syntax_of}
 use Rattle.text.specs.declared.Fault.{Fault}
-use Rattle.text.specs.Limited.{Source, place, word_of, is_star, has_prefix, Function, position_function, last_function, count_function, not_function, boolean_function, other_function, function_of, holds_call, axis_number, holds_axis, value_at, result_of, arity, is_held_call, call_sort, operator_sort, sort, fault, number_taken, path_taken, as_number, as_path, name_faults, argument_faults, own, faults, text_faults}
+use Rattle.text.specs.Limited.{Source, place, word_of, is_star, has_prefix, function_of, holds_call, axis_number, holds_axis, value_at, result_of, arity, is_held_call, call_sort, operator_sort, sort, fault, number_taken, path_taken, as_number, as_path, name_faults, argument_faults, own, faults, text_faults}
 use Rattle.text.specs.Reading.{values, index_of, operation, as_truth, as_predicate, called, operand_of, descended, axis_of, name_number, type_number, test_of, held}
 use Rattle.text.proofs.Scheme.{View, a_token, a_name, Every, reads}
 use Rattle.text.proofs.Tree.{the_tree}
@@ -220,20 +222,20 @@ module _ (s : Source) (l : List Float) where
       (f : Function) (c : Syntax) → T (holds_call f (arity c)) → argument_faults s f c ≡ [] → (0 < arity c → FitsSort n (sort s c) (alone c))
       → FitsSort n (result_of f) (called f (sort s c) (alone c))
   unfolding holds_call argument_faults result_of called as_path takes is_number is_truth code fields_of
-  called_fits position_function c g e h = op_fits n NumberLink Position none none tt (none_unused n) (none_unused n)
-  called_fits last_function c g e h = op_fits n NumberLink Last none none tt (none_unused n) (none_unused n)
-  called_fits count_function c g e h =
+  called_fits PositionCall c g e h = op_fits n NumberLink Position none none tt (none_unused n) (none_unused n)
+  called_fits LastCall c g e h = op_fits n NumberLink Last none none tt (none_unused n) (none_unused n)
+  called_fits CountCall c g e h =
       let one : arity c ≡ 1 = eqb→eq (arity c) 1 g in
       op_fits n NumberLink Count (alone c) none tt
       (as_path_lem n (sort s c) (alone c) (passed (path_taken (sort s c)) _ e) (h (omega arith))) (none_unused n)
-  called_fits not_function c g e h =
+  called_fits NotCall c g e h =
       let one : arity c ≡ 1 = eqb→eq (arity c) 1 g in
       op_fits n TruthLink Negation (as_truth (sort s c) (alone c)) none tt
       (as_truth_lem n (sort s c) (alone c) (h (omega arith))) (none_unused n)
-  called_fits boolean_function c g e h =
+  called_fits BooleanCall c g e h =
       let one : arity c ≡ 1 = eqb→eq (arity c) 1 g in
       as_truth_lem n (sort s c) (alone c) (h (omega arith))
-  called_fits other_function c g e h = absurd g
+  called_fits OtherCall c g e h = absurd g
 
   call_held : (i : ℕ) (c : Syntax) → Argued c → Expression (part call FunctionName i blank blank c)
   unfolding sort held own call_sort

@@ -1,7 +1,7 @@
 -- The form of a text, computed: by the machine, by the tree that its tokens grow, and by the place where the machine stops. It need not be
 -- believed: that a text has this form and no other is a law.
 -- Assumes nothing: this is a definition.
-use Rattle.std.specs.Prelude.{ℕ, cond, List, [], ◌∷◌}
+use Rattle.std.specs.Prelude.{ℕ, cond, List, [], ◌∷◌, Option, None, Some}
 use Rattle.text.specs.declared.Fault.{Fault}
 use Rattle.text.specs.Tokens.{classes_of}
 use Rattle.text.specs.Machine.{start, accepts, readable}
@@ -14,12 +14,12 @@ unfoldable pub form_of : List ℕ → Form
 form_of text =
     cond (accepts (classes_of text)) (inside (syntax_of (classes_of text))) (outside (byte_of text (readable start (classes_of text))))
 
--- the lowest of some faults; the number 0 for none
-unfoldable pub lowest_of : List Fault → Fault
-lowest_of [] = record { number = 0; place = 0 }
-lowest_of (f ∷ fs) = least f fs
+-- the lowest of some faults, if there is one
+unfoldable pub lowest_of : List Fault → Option Fault
+lowest_of [] = None
+lowest_of (f ∷ fs) = Some (least f fs)
 
--- what is wrong in a text of this form: 23 outside the grammar, else its lowest fault
-unfoldable pub found : Form → List ℕ → List ℕ → Fault
-found (outside p) text list = record { number = 23; place = p }
+-- what is wrong in a text of this form, if anything is: 23 outside the grammar, else its lowest fault
+unfoldable pub found : Form → List ℕ → List ℕ → Option Fault
+found (outside p) text list = Some (record { number = 23; place = p })
 found (inside e) text list = lowest_of (text_faults (source text list) e)

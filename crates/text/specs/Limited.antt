@@ -1,6 +1,8 @@
 -- What of a text document 01 can hold (document 02, W-202): words, the sorts of expressions, and the faults 24, 25 and 26 with their bytes.
 -- It stands over the tree of constructs, a line for each kind of construct.
 -- Assumes nothing: these are definitions.
+use Rattle.text.specs.declared.Function.{Function}
+use Rattle.text.specs.declared.Function.TheVariants.{PositionCall, LastCall, CountCall, NotCall, BooleanCall, OtherCall}
 use Rattle.std.specs.Prelude.{ℕ, suc, ◌+◌, ◌-◌, ◌^◌, Bool, true, false, ◌&&◌, ◌||◌, not, cond, List, [], ◌∷◌, ◌++◌, length, get_or, eqb, ltb, leb, Float}
 use Rattle.std.specs.Float.{binary64}
 use Rattle.std.specs.Float.Ieee as Ieee
@@ -48,27 +50,25 @@ is_star text p = eqb (byte text p) 42
 unfoldable pub has_prefix : List ℕ → ℕ → Bool
 has_prefix text p = star_at text (run_end 2 text p) || not (eqb (name_end text p) (run_end 2 text p))
 
--- the five functions
-pub data Function : Type 0 where
-  position_function last_function count_function not_function boolean_function other_function : Function
+-- ---- the five functions
 
 abbrev pub function_names : List (List ℕ)
 function_names = ascii "position" ∷ ascii "last" ∷ ascii "count" ∷ ascii "not" ∷ ascii "boolean" ∷ []
 
 abbrev pub functions : List Function
-functions = position_function ∷ last_function ∷ count_function ∷ not_function ∷ boolean_function ∷ []
+functions = PositionCall ∷ LastCall ∷ CountCall ∷ NotCall ∷ BooleanCall ∷ []
 
 unfoldable pub function_of : List ℕ → Function
-function_of w = get_or functions (position function_names w) other_function
+function_of w = get_or functions (position function_names w) OtherCall
 
 -- does 01 hold the function with so many arguments?
 unfoldable pub holds_call : Function → ℕ → Bool
-holds_call position_function n = eqb n 0
-holds_call last_function n = eqb n 0
-holds_call count_function n = eqb n 1
-holds_call not_function n = eqb n 1
-holds_call boolean_function n = eqb n 1
-holds_call other_function n = false
+holds_call PositionCall n = eqb n 0
+holds_call LastCall n = eqb n 0
+holds_call CountCall n = eqb n 1
+holds_call NotCall n = eqb n 1
+holds_call BooleanCall n = eqb n 1
+holds_call OtherCall n = false
 
 -- the axes, each at 01's number; namespace has none
 abbrev pub held_axes : List (List ℕ)
@@ -116,12 +116,12 @@ is_path Nodes = true
 is_path Unheld = false
 
 unfoldable pub result_of : Function → Sort
-result_of position_function = Numeral
-result_of last_function = Numeral
-result_of count_function = Numeral
-result_of not_function = Truth
-result_of boolean_function = Truth
-result_of other_function = Unheld
+result_of PositionCall = Numeral
+result_of LastCall = Numeral
+result_of CountCall = Numeral
+result_of NotCall = Truth
+result_of BooleanCall = Truth
+result_of OtherCall = Unheld
 
 -- how many arguments
 unfoldable pub arity : Syntax → ℕ
@@ -191,12 +191,12 @@ digit_faults s i = cond (ltb most_digits (length (digits (number_at s.text (plac
 
 -- of the five functions count takes a path, the others take what they get
 unfoldable pub argument_faults : Source → Function → Syntax → List Fault
-argument_faults s position_function c = []
-argument_faults s last_function c = []
-argument_faults s count_function c = as_path s c
-argument_faults s not_function c = []
-argument_faults s boolean_function c = []
-argument_faults s other_function c = []
+argument_faults s PositionCall c = []
+argument_faults s LastCall c = []
+argument_faults s CountCall c = as_path s c
+argument_faults s NotCall c = []
+argument_faults s BooleanCall c = []
+argument_faults s OtherCall c = []
 
 -- a construct's own faults, not those of its parts
 unfoldable pub own : Source → Kind → Token → ℕ → Syntax → Syntax → List Fault

@@ -1,6 +1,8 @@
 -- What a text stands for (document 02, W-202): document 01's tree, its rows in postorder and its literals; and the answer of the reader.
 -- Checks run in the order of the request; the first that applies is given, and no other.
 -- Assumes nothing: these are definitions.
+use Rattle.text.specs.declared.Function.{Function}
+use Rattle.text.specs.declared.Function.TheVariants.{PositionCall, LastCall, CountCall, NotCall, BooleanCall, OtherCall}
 use Rattle.std.specs.Prelude.{ℕ, suc, ◌+◌, ◌-◌, ◌*◌, ◌≡◌, cond, List, [], ◌∷◌, ◌++◌, length, get_or, drop, eqb, ltb, leb, Float}
 use Rattle.std.specs.Float.Ieee as Ieee
 use Rattle.meaning.specs.Rows.{most_path_rows, most_literals}
@@ -20,7 +22,7 @@ use Rattle.text.specs.Grammar as G
 use Rattle.text.specs.Tokens.{code, tokens, classes_of, place_in}
 use Rattle.text.specs.Syntax.{word, number, string, variable, group, call, arguments, negative, binary, union, filter, onward, relative, absolute, chain, step, self, parent, axis, attribute, named, typed, instruction, target, predicates, is_kind, Syntax, blank, part, stand_for}
 use Rattle.text.specs.Growing.{tightness}
-use Rattle.text.specs.Limited.{Source, source, place, word_of, is_star, Function, position_function, last_function, count_function, not_function, boolean_function, other_function, function_of, axis_number, value_at, sort, text_faults, least}
+use Rattle.text.specs.Limited.{Source, source, place, word_of, is_star, function_of, axis_number, value_at, sort, text_faults, least}
 
 -- ---- literals
 
@@ -78,12 +80,12 @@ as_predicate Unheld t = t
 
 -- a call over the tree of its argument; boolean() of a truth adds no row
 unfoldable pub called : Function → Sort → Tree → Tree
-called position_function u t = one Position none
-called last_function u t = one Last none
-called count_function u t = one Count t
-called not_function u t = one Negation (as_truth u t)
-called boolean_function u t = as_truth u t
-called other_function u t = none
+called PositionCall u t = one Position none
+called LastCall u t = one Last none
+called CountCall u t = one Count t
+called NotCall u t = one Negation (as_truth u t)
+called BooleanCall u t = as_truth u t
+called OtherCall u t = none
 
 -- the operands of and and or are truths, of all others numbers
 unfoldable pub operand_of : Token → Sort → Tree → Tree

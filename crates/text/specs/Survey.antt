@@ -1,6 +1,8 @@
 -- The survey: the lowest fault of a text of the grammar, found token by token, with a few numbers for each open bracket. It is a way to
 -- compute, and need not be believed: a law says that it finds the least of `text_faults`.
 -- Assumes nothing: these are definitions.
+use Rattle.text.specs.declared.Function.{Function}
+use Rattle.text.specs.declared.Function.TheVariants.{OtherCall}
 use Rattle.std.specs.Prelude.{ℕ, suc, ◌+◌, ◌-◌, ◌*◌, max, Bool, true, false, ◌&&◌, ◌||◌, not, cond, List, [], ◌∷◌, length, get_or, eqb, ltb, leb}
 use Rattle.names.specs.Names.{position}
 use Rattle.text.specs.declared.Fault.{Fault}
@@ -10,7 +12,7 @@ use Rattle.text.specs.declared.Level.{Level}
 use Rattle.text.specs.Grammar.{Token, opening, closing, '[', ']', dot, dots, at, comma, '::', NameTest, NodeType, 'processing_instruction', FunctionName, AxisName, Literal, Number, VariableReference, '/', '//', '|', '+', '-', '=', '!=', '<', '<=', '>', '>=', MultiplyOperator, 'and', 'or', 'div', 'mod', unknown}
 use Rattle.text.specs.Machine.{Mode, operand, argument, part, target, call, Act, refuse, go, enter, leave_round, leave_square, next_argument, rows, pick, inner, has, beginning, signing, ending, continuing}
 use Rattle.text.specs.Syntax.{read_all}
-use Rattle.text.specs.Limited.{Source, place, word_of, Function, other_function, functions, function_names, holds_call, result_of, holds_axis, is_path, number_taken, path_taken, name_faults, digit_faults}
+use Rattle.text.specs.Limited.{Source, place, word_of, functions, function_names, holds_call, result_of, holds_axis, is_path, number_taken, path_taken, name_faults, digit_faults}
 
 -- ---- faults as numbers
 
@@ -147,7 +149,7 @@ opening_read m' p s (survey m l ls v n found) =
     (survey m' l ls v n found))
 
 abbrev pub function_at : ℕ → Function
-function_at f = get_or functions f other_function
+function_at f = get_or functions f OtherCall
 
 -- behind a level of this kind, whose sort is v and which holds so many arguments: the sort of the operand that it is, and a fault at that one
 unfoldable pub sort_behind : ℕ → ℕ → Sort → Sort

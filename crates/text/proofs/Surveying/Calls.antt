@@ -1,5 +1,7 @@
 -- The productions of primary expressions and calls keep the survey's promises.
 -- Assumes nothing.
+use Rattle.text.specs.declared.Function.{Function}
+use Rattle.text.specs.declared.Function.TheVariants.{PositionCall, LastCall, CountCall, NotCall, BooleanCall, OtherCall}
 use Prim.Native.Nat.{ℕ, zero, suc, ◌+◌, ◌-◌, ◌≤◌, ◌<◌, max}
 use mathlib.Core.Path.{◌≡◌, refl, sym, ◌∙◌, ap, ap₂, subst⁻¹}
 use mathlib.Core.Bool.{Bool, true, false, ◌&&◌, ◌||◌, not, cond}
@@ -18,7 +20,7 @@ use Rattle.text.specs.Syntax.{Kind, Syntax, blank, part, begin}
 use Rattle.text.specs.Syntax as K
 use Rattle.text.specs.Machine.{Mode, operand, argument, has, beginning, ending, rows, pick, number, inner}
 use Rattle.text.specs.Machine as M
-use Rattle.text.specs.Limited.{Source, place, sort, own, fault, is_path, path_taken, word_of, Function, position_function, last_function, count_function, not_function, boolean_function, other_function, function_names, function_of, holds_call, result_of, is_held_call, call_sort, arity, argument_faults}
+use Rattle.text.specs.Limited.{Source, place, sort, own, fault, is_path, path_taken, word_of, function_names, function_of, holds_call, result_of, is_held_call, call_sort, arity, argument_faults}
 use Rattle.text.specs.Survey.{urgency, worst, noted, end_faults, level_sort, Survey, survey, after, survey_token, opening_read, closing_read, name_read, string_read, comma_read, fresh, left, sort_behind, fault_behind, other_begun, operand_read, function_at, wants_path}
 use Rattle.text.proofs.Machine.{each}
 use Rattle.text.proofs.Surveying.Urgent.{max_assoc, max_again, maxima, mark, noted_mark, worst_in, worst_parts, worst_blank, worst_one, as_a_path, leaf_worst, leaf_finds, quiet_worst}
@@ -128,12 +130,12 @@ module _ (s : Source) where
       (f : Function) (i : ℕ)
       → worst s (cond (holds_call f 0) (argument_faults s f blank) (fault s 26 i)) ≡ mark s (not (holds_call f 0)) (place s i)
   unfolding holds_call argument_faults worst
-  empty_worst position_function i = refl
-  empty_worst last_function i = refl
-  empty_worst count_function i = max-zero (urgency s 26 (place s i))
-  empty_worst not_function i = max-zero (urgency s 26 (place s i))
-  empty_worst boolean_function i = max-zero (urgency s 26 (place s i))
-  empty_worst other_function i = max-zero (urgency s 26 (place s i))
+  empty_worst PositionCall i = refl
+  empty_worst LastCall i = refl
+  empty_worst CountCall i = max-zero (urgency s 26 (place s i))
+  empty_worst NotCall i = max-zero (urgency s 26 (place s i))
+  empty_worst BooleanCall i = max-zero (urgency s 26 (place s i))
+  empty_worst OtherCall i = max-zero (urgency s 26 (place s i))
 
   empty_finds :
       (i p : ℕ) (v : Sort) (found : ℕ) → p ≡ place s i
@@ -331,12 +333,12 @@ module _ (s : Source) where
 
   holds_few : (f : Function) (n : ℕ) → 2 ≤ n → holds_call f n ≡ false
   unfolding holds_call
-  holds_few position_function n h = ne_eqb n 0 (λ e. omega arith)
-  holds_few last_function n h = ne_eqb n 0 (λ e. omega arith)
-  holds_few count_function n h = ne_eqb n 1 (λ e. omega arith)
-  holds_few not_function n h = ne_eqb n 1 (λ e. omega arith)
-  holds_few boolean_function n h = ne_eqb n 1 (λ e. omega arith)
-  holds_few other_function n h = refl
+  holds_few PositionCall n h = ne_eqb n 0 (λ e. omega arith)
+  holds_few LastCall n h = ne_eqb n 0 (λ e. omega arith)
+  holds_few CountCall n h = ne_eqb n 1 (λ e. omega arith)
+  holds_few NotCall n h = ne_eqb n 1 (λ e. omega arith)
+  holds_few BooleanCall n h = ne_eqb n 1 (λ e. omega arith)
+  holds_few OtherCall n h = refl
 
   several_finds :
       (i p : ℕ) (y : Syntax) (found e : ℕ) → p ≡ place s i → 2 ≤ arity y → e ≡ max (mark s true p) (max (worst_in s y) found)

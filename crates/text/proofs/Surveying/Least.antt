@@ -1,6 +1,8 @@
 -- The least fault and the most urgent one are the same, and its urgency tells its number and its byte; every fault of a text has a number
 -- from 24 to 26 and a byte of the text, or the byte behind it.
 -- Assumes nothing.
+use Rattle.text.specs.declared.Function.{Function}
+use Rattle.text.specs.declared.Function.TheVariants.{PositionCall, LastCall, CountCall, NotCall, BooleanCall, OtherCall}
 use Prim.Native.Nat.{ℕ, zero, suc, ◌+◌, ◌*◌, ◌≤◌, ◌<◌, max}
 use mathlib.Core.Path.{◌≡◌, refl, sym, ◌∙◌, ap, subst}
 use mathlib.Core.Bool.{Bool, true, false, ◌&&◌, ◌||◌, cond}
@@ -17,7 +19,7 @@ use Rattle.text.specs.Tokens as Tokens
 use Rattle.text.specs.Syntax.{Kind, word, number, string, variable, group, call, arguments, negative, binary, union, filter, onward, relative, absolute, chain, step, self, parent, axis, attribute, named, typed, instruction, target, predicates, Syntax, blank, part, begin, Reading, pass, makes, nth, made, which, readings, past, stand_for}
 use Rattle.text.specs.Growing.{tightness, syntax_of}
 use Rattle.text.specs.declared.Fault.{Fault}
-use Rattle.text.specs.Limited.{Source, source, place, fault, sort, is_path, number_taken, path_taken, word_of, is_star, has_prefix, digits, number_at, most_digits, holds_axis, function_of, is_held_call, as_number, as_path, name_faults, digit_faults, argument_faults, Function, position_function, last_function, count_function, not_function, boolean_function, other_function, own, faults, text_faults, before, least}
+use Rattle.text.specs.Limited.{Source, source, place, fault, sort, is_path, number_taken, path_taken, word_of, is_star, has_prefix, digits, number_at, most_digits, holds_axis, function_of, is_held_call, as_number, as_path, name_faults, digit_faults, argument_faults, own, faults, text_faults, before, least}
 use Rattle.text.specs.Survey.{urgency, worst}
 use Rattle.text.proofs.Scheme.{past_append}
 use Rattle.text.proofs.Tree.{the_tree}
@@ -170,12 +172,12 @@ module _ (s : Source) (n : ℕ) (reach : (i : ℕ) → i ≤ n → place s i ≤
 
   argument_in_text : (f : Function) (x : Syntax) → Upto n x → AllInText s (argument_faults s f x)
   unfolding argument_faults
-  argument_in_text position_function x h = tt
-  argument_in_text last_function x h = tt
-  argument_in_text count_function x h = path_in_text x h
-  argument_in_text not_function x h = tt
-  argument_in_text boolean_function x h = tt
-  argument_in_text other_function x h = tt
+  argument_in_text PositionCall x h = tt
+  argument_in_text LastCall x h = tt
+  argument_in_text CountCall x h = path_in_text x h
+  argument_in_text NotCall x h = tt
+  argument_in_text BooleanCall x h = tt
+  argument_in_text OtherCall x h = tt
 
   name_in_text : (i : ℕ) → i ≤ n → AllInText s (name_faults s i)
   unfolding name_faults
