@@ -10,7 +10,7 @@ ghost use Rattle.axes.specs.Second.{in_second};
 
 use basics::entry;
 use meaning::{Axis, Test};
-use table::{kind_number_at, name_at};
+use table::{Kind, kind_at, kind_number_at, name_at};
 
 // The parent of any number, and the end of its subtree: of no row both read 0 for what is stored.
 fn any_parent(table: &[u32], i: usize) -> usize
@@ -28,12 +28,12 @@ fn any_end(table: &[u32], i: usize) -> usize
 }
 
 // Is any number an attribute's?
-#[tactic(auto, unfolding(meaning::specs::Table::is_attribute))]
+#[tactic(auto, using(table::proofs::Numbers::same_kind), unfolding(meaning::specs::Table::is_attribute))]
 fn any_attribute(table: &[u32], i: usize) -> bool
     requires { i < 4294967296 }
     ensures { result ≡ is_attribute table.now i }
 {
-    entry(table, 4 * i) == 5
+    Kind::from(entry(table, 4 * i)) == Kind::Attribute
 }
 
 // Is x the parent of y? Row 0 has none.
@@ -128,7 +128,8 @@ pub fn nth(reverse: bool, n: usize, i: usize) -> usize
     if reverse { n - 1 - i } else { i }
 }
 
-// The kind that `*` and names match on the axis: attributes on the attribute axis, elements on all others.
+// The kind that `*` and names match on the axis: attributes on the attribute axis, elements on all others. A number, as the definition of
+// `passes` takes a kind by any number, and Kind has none for those above 5.
 #[tactic(auto, unfolding(meaning::specs::Axis::principal))]
 pub fn principal(axis: Axis) -> usize
     ensures { result ≡ Rattle.meaning.specs.Axis.principal axis }
@@ -148,7 +149,7 @@ pub fn in_second(edition: usize, test: Test) -> Test
 }
 
 // Does node y pass the test, where `*` and names match this kind?
-#[tactic(auto, unfolding(meaning::specs::Axis::passes, meaning::specs::Table::is_text))]
+#[tactic(auto, using(table::proofs::Numbers::same_kind), unfolding(meaning::specs::Axis::passes, meaning::specs::Table::is_text))]
 pub fn passes_test(table: &[u32], kind: usize, test: Test, y: usize) -> bool
     requires { y < rows table.now }
     ensures { result ≡ passes 2 table.now kind test y }
@@ -156,9 +157,9 @@ pub fn passes_test(table: &[u32], kind: usize, test: Test, y: usize) -> bool
     match test {
         Test::AnyNode => true,
         Test::Star => kind_number_at(table, y) == kind,
-        Test::Text => kind_number_at(table, y) == 2,
-        Test::Comment => kind_number_at(table, y) == 3,
-        Test::Instruction => kind_number_at(table, y) == 4,
+        Test::Text => kind_at(table, y) == Kind::Text,
+        Test::Comment => kind_at(table, y) == Kind::Comment,
+        Test::Instruction => kind_at(table, y) == Kind::Instruction,
         Test::Named(name) => kind_number_at(table, y) == kind && name_at(table, y) == name,
     }
 }
