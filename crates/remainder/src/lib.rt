@@ -8,13 +8,6 @@ ghost use Rattle.std.specs.Float.Ieee as Ieee;
 ghost use Rattle.std.specs.Float.Ieee.Exact.{HasValue};
 ghost use Rattle.remainder.specs.Units.{size_of};
 
-// A size as a number of units, the smallest doubles: digits times 2 to the shift.
-#[derive(Clone, Copy)]
-struct Size {
-    digits: u64,
-    shift: u64,
-}
-
 // The bits of infinity. Those below it are the finite doubles that are not negative.
 const INFINITY: u64 = 0x7ff0_0000_0000_0000;
 
@@ -27,24 +20,58 @@ const LEADING: u64 = 0x10_0000_0000_0000;
 // So many places above, a divisor is larger than any digits.
 const FAR: u64 = 53;
 
-// The size of the finite double that has these bits, without its sign.
-fn size_from(bits: u64) -> Size
-    requires { bits < 2047 * 2 ^ 52 }
-    ensures digits { result.digits < 2 ^ 53 }
-    ensures shift { result.shift ≤ 2045 }
-    ensures value { (s : Bool) → HasValue (Ieee.of_fields binary64 s (bits / 2 ^ 52) (bits % 2 ^ 52)) s (size_of result.digits result.shift) (2 ^ 1074) }
-    ensures above { 0 < bits → 0 < result.digits }
-{
-    let exponent = bits / LEADING;
-    if exponent == 0 {
-        Size {
-            digits: bits,
-            shift: 0,
+// A size as a number of units, the smallest doubles: digits times 2 to the shift. Each finite double has one.
+#[derive(Clone, Copy)]
+struct Size {
+    digits: u64,
+    shift: u64,
+    ghost of_doubles: { (digits < 2 ^ 53) × (shift ≤ 2045) },
+}
+
+impl Size {
+    // The size of the finite double that has these bits, without its sign.
+    #[tactic(auto, using(crate::proofs::Units::size_low, crate::proofs::Units::size_high))]
+    fn from_bits(bits: u64) -> Self
+        requires { bits < 2047 * 2 ^ 52 }
+        ensures value { (s : Bool) → HasValue (Ieee.of_fields binary64 s (bits / 2 ^ 52) (bits % 2 ^ 52)) s (size_of result.digits result.shift) (2 ^ 1074) }
+        ensures above { 0 < bits → 0 < result.digits }
+    {
+        let exponent = bits / LEADING;
+        if exponent == 0 {
+            return Size {
+                digits: bits,
+                shift: 0,
+            };
         }
-    } else {
         Size {
             digits: bits % LEADING + LEADING,
             shift: exponent - 1,
+        }
+    }
+
+    // The rest by a larger or smaller size that is not 0.
+    #[tactic(auto, using(crate::proofs::Units::scaled_less, crate::proofs::Units::scaled_more, crate::proofs::Units::left_out, crate::proofs::Units::above_quotient, crate::proofs::Units::below_quotient))]
+    fn rest_by(self, divisor: Size) -> Size
+        requires { 0 < divisor.digits }
+        ensures { size_of result.digits result.shift ≡ size_of self.digits self.shift % size_of divisor.digits divisor.shift }
+    {
+        if divisor.shift <= self.shift {
+            let shift = self.shift - divisor.shift;
+            return Size {
+                digits: rest_of_digits(self.digits, shift, divisor.digits),
+                shift: divisor.shift,
+            };
+        }
+        let more = divisor.shift - self.shift;
+        if FAR <= more {
+            return self;
+        }
+        if self.digits >> more < divisor.digits {
+            return self;
+        }
+        Size {
+            digits: self.digits % (divisor.digits << more),
+            shift: self.shift,
         }
     }
 }
@@ -62,47 +89,17 @@ fn doubled(rest: u64, divisor: u64) -> u64
     }
 }
 
-// The rest of a size by a divisor, one binary digit after the other.
-fn rest_by(digits: u64, shift: u64, divisor: u64) -> u64
+// The rest of shifted digits by a divisor, one binary digit after the other.
+#[tactic(auto, using(crate::proofs::Units::digit_more))]
+fn rest_of_digits(digits: u64, shift: u64, divisor: u64) -> u64
     requires { (0 < divisor) × (divisor < 2 ^ 53) }
     ensures { result ≡ size_of digits shift % divisor }
 {
     let mut rest = digits % divisor;
-    let mut i = 0;
-    while i < shift {
+    for _i in 0..shift {
         rest = doubled(rest, divisor);
-        i += 1;
     }
     rest
-}
-
-// The rest of a size by a larger or smaller one that is not 0.
-fn rest(a: Size, b: Size) -> Size
-    requires a_digits { a.digits < 2 ^ 53 }
-    requires a_shift { a.shift ≤ 2045 }
-    requires b_digits { (0 < b.digits) × (b.digits < 2 ^ 53) }
-    requires b_shift { b.shift ≤ 2045 }
-    ensures digits { result.digits < 2 ^ 53 }
-    ensures shift { result.shift ≤ 2045 }
-    ensures value { size_of result.digits result.shift ≡ size_of a.digits a.shift % size_of b.digits b.shift }
-{
-    if b.shift <= a.shift {
-        return Size {
-            digits: rest_by(a.digits, a.shift - b.shift, b.digits),
-            shift: b.shift,
-        };
-    }
-    let more = b.shift - a.shift;
-    if FAR <= more {
-        return a;
-    }
-    if a.digits >> more < b.digits {
-        return a;
-    }
-    Size {
-        digits: a.digits % (b.digits << more),
-        shift: a.shift,
-    }
 }
 
 // The double that is 2 to the shift units.
@@ -118,15 +115,16 @@ fn power(shift: u64) -> f64
 }
 
 // The double nearest to a size.
-fn double_of(s: Size) -> f64
-    requires digits { s.digits < 2 ^ 53 }
-    requires shift { s.shift ≤ 2045 }
-    ensures { result ≡ Ieee.round binary64 false (size_of s.digits s.shift) (2 ^ 1074) }
-{
-    if s.digits == 0 {
-        return 0.0;
+impl From<Size> for f64 {
+    ghost from_gives = { λ s r. r ≡ Ieee.round binary64 false (size_of s.digits s.shift) (2 ^ 1074) };
+
+    #[tactic(auto, using(crate::proofs::Units::nothing_is, crate::proofs::Units::product_is))]
+    fn from(size: Size) -> f64 {
+        if size.digits == 0 {
+            return 0.0;
+        }
+        size.digits as f64 * power(size.shift)
     }
-    s.digits as f64 * power(s.shift)
 }
 
 // The remainder of x by y: x less as many times y as there are whole ones in x. NaN for an infinite x, for a y of 0 and for a NaN.
@@ -150,6 +148,6 @@ pub fn remainder(x: f64, y: f64) -> f64
     if b == 0 {
         return 0.0 / 0.0;
     }
-    let rest = double_of(rest(size_from(a), size_from(b)));
+    let rest = f64::from(Size::from_bits(a).rest_by(Size::from_bits(b)));
     if x.is_sign_negative() { -rest } else { rest }
 }

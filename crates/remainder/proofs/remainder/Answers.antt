@@ -79,12 +79,12 @@ pub returns-then-is_sign_negative : goal.returns-then-is_sign_negative
 returns-then-is_sign_negative c =
     let fits_x : T (fits binary64 c.args.x) = subst T (sym c.well_formed.0.1) tt in
     let fits_y : T (fits binary64 c.args.y) = subst T (sym c.well_formed.1.0.1) tt in
-    let some : 0 < size_of c.size_from-2.result.digits c.size_from-2.result.shift = mul-pos (c.size_from-2.ensures.above (omega arith)) (pow_pos c.size_from-2.result.shift) in
-    (found c.args.x c.args.y _ _ _ _ fits_x fits_y some c.size_from.ensures.value c.size_from-2.ensures.value c.rest.ensures.value c.double_of-rest.ensures).0 (sym c.is_sign_negative.ensures ∙ c.if-is_sign_negative.true)
+    let some : 0 < size_of c.from_bits-2.result.digits c.from_bits-2.result.shift = mul-pos (c.from_bits-2.ensures.above (omega arith)) (pow_pos c.from_bits-2.result.shift) in
+    (found c.args.x c.args.y _ _ _ _ fits_x fits_y some c.from_bits.ensures.value c.from_bits-2.ensures.value c.rest_by.ensures c.from-rest.ensures).0 (sym c.is_sign_negative.ensures ∙ c.if-is_sign_negative.true)
 
 pub returns-else-is_sign_negative : goal.returns-else-is_sign_negative
 returns-else-is_sign_negative c =
     let fits_x : T (fits binary64 c.args.x) = subst T (sym c.well_formed.0.1) tt in
     let fits_y : T (fits binary64 c.args.y) = subst T (sym c.well_formed.1.0.1) tt in
-    let some : 0 < size_of c.size_from-2.result.digits c.size_from-2.result.shift = mul-pos (c.size_from-2.ensures.above (omega arith)) (pow_pos c.size_from-2.result.shift) in
-    (found c.args.x c.args.y _ _ _ _ fits_x fits_y some c.size_from.ensures.value c.size_from-2.ensures.value c.rest.ensures.value c.double_of-rest.ensures).1 (sym c.is_sign_negative.ensures ∙ c.if-is_sign_negative.false)
+    let some : 0 < size_of c.from_bits-2.result.digits c.from_bits-2.result.shift = mul-pos (c.from_bits-2.ensures.above (omega arith)) (pow_pos c.from_bits-2.result.shift) in
+    (found c.args.x c.args.y _ _ _ _ fits_x fits_y some c.from_bits.ensures.value c.from_bits-2.ensures.value c.rest_by.ensures c.from-rest.ensures).1 (sym c.is_sign_negative.ensures ∙ c.if-is_sign_negative.false)
