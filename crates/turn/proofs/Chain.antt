@@ -17,7 +17,9 @@ use Rattle.meaning.proofs.Trees.{tree_zero, tree_row}
 use Rattle.meaning.proofs.ReadBack.{length_written, link_zero}
 use Rattle.meaning.proofs.Demand.{weight_back}
 use Rattle.meaning.proofs.Written.{sets_behind, link_from}
+use Rattle.turn.specs.declared.pen.Pen.{Pen}
 use Rattle.turn.specs.Parts.{Room, step_rows, chain}
+use Rattle.turn.specs.Wrote.{Wrote}
 
 -- a step behind the steps that are done
 abbrev further : Tree → Tree → ℕ → Tree
@@ -52,6 +54,10 @@ weight_chain s = omega (arith, weight_back s (further none s 0))
 
 -- ---- one step
 
+-- what was written keeps the output's length
+pub wrote_length : (before after : Pen) (rows : List ℕ) (n : ℕ) → Wrote before after rows n → length after.out.now ≡ length before.out.now
+wrote_length before after rows n w = ap length w.stored ∙ length-sets before.out.now (5 * before.at) rows
+
 -- the predicates, then the step's row
 pub step_stored : (p : List ℕ) (l held at m axis u d : ℕ) (out x z : List ℕ) → tree p held ≡ predicates (tree p l)
     → (m ≡ at + weight (tree p held)) × (x ≡ sets out (5 * at) (written at (tree p held)))
@@ -73,7 +79,6 @@ module _ (p : List ℕ) (last : ℕ) (start : List ℕ) (first : ℕ) where
   pub record Behind (out : List ℕ) (at from : ℕ) : Type 0 where
     pub done : Tree
     pub rest : List ℕ
-    pub near : from ≤ 256
     pub room : Room start (weight (tree p last) + 1)
     pub began : first ≡ weight (further none (tree p last) 0)
     pub next : at ≡ weight done
@@ -82,16 +87,15 @@ module _ (p : List ℕ) (last : ℕ) (start : List ℕ) (first : ℕ) where
     pub left : back (tree p from) done ≡ chain (tree p last)
 
   -- the first step is done
-  pub behind_start : (out : List ℕ) → last ≤ 256 → Room out (weight (tree p last) + 1)
+  pub behind_start : (out : List ℕ) → Room out (weight (tree p last) + 1)
       → (first ≡ 0 + weight (predicates (tree p last)) + 1) × (start ≡ sets out (5 * 0) (step_rows 0 (tree p last) 0)) → Behind start first last
   unfolding chain weight
-  behind_start out h k f =
+  behind_start out k f =
       let s : Tree = tree p last in
       let e : length start ≡ length out = ap length f.1 ∙ length-sets out (5 * 0) (step_rows 0 s 0) in
       record {
         done = further none s 0;
         rest = [];
-        near = h;
         room = record { few = k.few; holds = omega (arith, k.holds) };
         began = omega arith;
         next = omega arith;
@@ -144,17 +148,16 @@ module _ (p : List ℕ) (last : ℕ) (start : List ℕ) (first : ℕ) where
           record { few = omega (arith, few_predicates b, i.room.few); holds = omega (arith, few_predicates b, behind_length, i.room.holds) }
 
       -- one step more is done
-      pub behind_step : (axis c at' : ℕ) (out' : List ℕ) → before ≤ 256 → c ≡ index_or_axis p (from - 1) → axis ≡ inverse_of c
+      pub behind_step : (axis c at' : ℕ) (out' : List ℕ) → c ≡ index_or_axis p (from - 1) → axis ≡ inverse_of c
           → (at' ≡ at + weight (predicates (tree p before)) + 1) × (out' ≡ sets out (5 * at) (step_rows at (tree p before) axis))
           → Behind out' at' before
-      behind_step axis c at' out' h f g k =
+      behind_step axis c at' out' f g k =
           let done : Tree = further i.done (tree p before) axis in
           let e : back (tree p before) done ≡ back (tree p from) i.done =
           ap (λ (n : ℕ). back (tree p before) (further i.done (tree p before) n)) (g ∙ ap inverse_of f) ∙ sym (back_row p from before i.done more is-before) in
           record {
             done = done;
             rest = i.rest ++ step_rows at (tree p before) axis;
-            near = h;
             room = i.room;
             began = i.began;
             next = k.0 ∙ weight_further i.done (tree p before) axis at i.next;

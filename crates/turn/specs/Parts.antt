@@ -1,11 +1,15 @@
 -- The parts of a turned path as the code writes them: a step behind rows that stand already, and the chain of steps.
 -- Assumes nothing: these are definitions.
-use Rattle.std.specs.Prelude.{ℕ, ◌+◌, ◌-◌, ◌*◌, ◌<◌, ◌≤◌, ◌≡◌, List, ◌++◌, length}
+use Rattle.std.specs.Prelude.{ℕ, ◌+◌, ◌-◌, ◌*◌, ◌<◌, ◌≤◌, ◌≡◌, List, ◌++◌, length, Option, MatchOption}
 use Rattle.meaning.specs.declared.Op.TheVariants.{Relative, Step}
 use Rattle.meaning.specs.Rows.{op_at, rows_of, most_path_rows}
 use Rattle.meaning.specs.Tree.{Tree, none, node}
 use Rattle.meaning.specs.Turning.{predicates, test, back, weight, link, row, written}
 use Rattle.meaning.specs.Answers.{path_tree}
+
+-- the number from 1 of a first step is n, where there is one and n is not 0; it is at most the chain's link
+abbrev pub First : Option ℕ → ℕ → ℕ → Type 0
+First o n last = MatchOption o (n ≡ 0) (λ k. (k ≡ n) × (0 < k) × (k ≤ last))
 
 -- n rows are allowed, and the output holds them
 pub record Room (out : List ℕ) (n : ℕ) : Type 0 where

@@ -1,24 +1,50 @@
--- The answers of `turn::steps_of`: what its code leaves to show, by the invariants beside this file. Assumes nothing.
-use mathlib.Core.Path.{◌∙◌}
-use borrow.Author.Rules.{rules}
+-- The answers of `turn::steps_of`: one step more behind the chain before it, which is first where none before it fits. Assumes nothing.
+use Rattle.std.proofs.Common.{ℕ, ◌<◌, ◌≤◌, ◌≡◌, Bool, true, false, cond, eqb, Option, Some, None, refl, sym, ◌∙◌, arith}
+use Rattle.std.specs.Bool.{then_some}
+use Rattle.std.specs.Option.{option_or}
+use borrow.Author.Tests.{ne_eqb}
+use Rattle.meaning.specs.Turning.{is_counting, is_of_attributes}
 use Rattle.meaning.proofs.Counting.{steps_none, first_none, steps_row, first_row}
+use Rattle.turn.specs.Parts.{First}
 use Rattle.turn.proofs.+steps_of.Goals as goal
 
-pub returns-then-last-eq0 : goal.returns-then-last-eq0
-returns-then-last-eq0 t c = ((steps_none _ _ c.if-last-eq0.true, first_none _ _ _ c.if-last-eq0.true, first_none _ _ _ c.if-last-eq0.true), search rules, search rules, search rules)
+-- the first of some steps, or else their last, if it fits
+first_more : (o : Option ℕ) (own : Bool) (n f g k m : ℕ) → First o f k → k ≤ m → 0 < n → n ≤ m → cond (eqb f 0) (cond own n 0) f ≡ g → First (option_or o (then_some own n)) g m
+first_more None true n f g k m h low some high e = (rw h at e, some, high)
+first_more None false n f g k m h low some high e = sym (rw h at e)
+first_more (Some x) own n f g k m h low some high e =
+    let z : (f ≡ 0) → ⊥ = λ q. omega arith in
+    (h.0 ∙ rw (ne_eqb f 0 z) at e, h.1, omega arith)
 
-pub returns : goal.returns
-returns t c =
-    let more = c.if-last-eq0.false in
-    let first = c.first_link.ensures.0 in
-    let second = c.second_link.ensures.0 in
-    let before = c.steps_of-before.ensures.0 in (
-      (
-        steps_row _ _ more _ _ first second _ before.0,
-        first_row _ _ more _ _ first second _ _ _ _ _ before.0 before.1 c.counting-counts.ensures c.first_of.ensures.0,
-        first_row _ _ more _ _ first second _ _ _ _ _ before.0 before.2 (c.same-on_attributes.ensures ∙ rw c.index_or_axis.ensures.0) c.first_of-2.ensures.0,
-      ),
-      search rules,
-      search rules,
-      search rules,
+pub returns-in_default-clause-count : goal.returns-in_default-clause-count
+returns-in_default-clause-count t c = (steps_none _ _ (omega (arith, c.in_default.ensures)), omega arith)
+
+pub returns-in_default-clause-counting : goal.returns-in_default-clause-counting
+returns-in_default-clause-counting t c = sym (first_none _ _ _ (omega (arith, c.in_default.ensures)))
+
+pub returns-in_default-clause-attribute : goal.returns-in_default-clause-attribute
+returns-in_default-clause-attribute t c = sym (first_none _ _ _ (omega (arith, c.in_default.ensures)))
+
+pub returns-clause-count : goal.returns-clause-count
+returns-clause-count t c =
+    let before = c.steps_of-before.ensures.count in
+    let here = c.in-Some.ensures in (
+      steps_row _ _ (λ e. omega arith) _ _ (rw here.1 at c.first_link.ensures.0) (rw here.1 at c.second_link.ensures.0) _ before.0,
+      omega arith,
     )
+
+pub returns-clause-counting : goal.returns-clause-counting
+returns-clause-counting t c =
+    let before = c.steps_of-before.ensures in
+    let here = c.in-Some.ensures in
+    rw (c.or.ensures, c.then_some.ensures)
+    (first_more _ _ _ _ _ _ _ before.counting (omega arith) (omega arith) (omega arith)
+    (first_row _ _ (λ e. omega arith) _ _ (rw here.1 at c.first_link.ensures.0) (rw here.1 at c.second_link.ensures.0) is_counting _ _ _ _ before.count.0 refl c.counting-counts.ensures refl))
+
+pub returns-clause-attribute : goal.returns-clause-attribute
+returns-clause-attribute t c =
+    let before = c.steps_of-before.ensures in
+    let here = c.in-Some.ensures in
+    rw (c.or-2.ensures, c.then_some-2.ensures)
+    (first_more _ _ _ _ _ _ _ before.attribute (omega arith) (omega arith) (omega arith)
+    (first_row _ _ (λ e. omega arith) _ _ (rw here.1 at c.first_link.ensures.0) (rw here.1 at c.second_link.ensures.0) is_of_attributes _ _ _ _ before.count.0 refl (rw here.1 at c.is_of_attributes-of_attributes.ensures) refl))

@@ -1,97 +1,71 @@
 -- `turn::turn` meets its contract: each check by what was read, in the order of the definition; a refusal has stored nothing.
 -- Assumes nothing.
-use mathlib.Core.Path.{refl}
-use native.Mathlib.Omega.{arith}
-use borrow.Author.Rules.{rules}
-use Rattle.turn.proofs.Answered.{refused, kept, turned_round, stopped, rows_there, step_counts, step_of_attributes, is_absolute_lem, no_room, is_turned, is_turnable}
+use Rattle.std.proofs.Common.{ℕ, ◌+◌, ◌≡◌, false, sym, refl, rules, arith}
+use mathlib.Core.Bool.{true≢false}
+use denote.Enum.Bare.{sameb, same_true}
+use Rattle.meaning.specs.contracts.Op.{the_type}
+use Rattle.meaning.specs.declared.Op.{Op}
+use Rattle.meaning.specs.declared.Op.TheVariants.{Absolute}
+use Rattle.meaning.specs.Meaning.{is_absolute}
+use Rattle.std.proofs.lemmas.Result.{err_from_is_err_and}
+use Rattle.meaning.specs.declared.Refusal.TheVariants.{StepCounts, StepOnAttributes, AbsolutePath, NoRoomToTurn}
+use Rattle.turn.proofs.Answered.{refuses, stopped, turned_round, rows_there, step_counts, step_of_attributes, is_absolute_lem, not_absolute_lem, too_many, too_short, is_turned, is_turnable}
 use Rattle.turn.proofs.turn.Goals as goal
+use Rattle.turn.proofs.turn.Goals.{then-needed-gt-MOST_ROWS-via-then-needed-gt-MOST_ROWS, then-needed-gt-MOST_ROWS-via-else-needed-gt-MOST_ROWS+then-out-needed}
 
-pub returns-then-checked-ne0 : goal.returns-then-checked-ne0
-returns-then-checked-ne0 c = kept _ _ _ _ (stopped _ _ _ c.check_path-checked.ensures _ c.if-checked-ne0.true) c.if-checked-ne0.true
+-- an op that the test tells from Absolute is relative
+relative : (op : Op) → sameb the_type op Absolute ≡ false → is_absolute op ≡ false
+relative op h = not_absolute_lem op (λ e. true≢false (rw e at h))
+
+pub returns-in_err-rows : goal.returns-in_err-rows
+returns-in_err-rows c =
+    let p = err_from_is_err_and c.from_residual.result c.from_residual.ensures.1 in
+    rw (p.1, p.2) (stopped _ _ _ _ c.in_err-rows.ensures)
 
 pub overflow_sub-rows : goal.overflow_sub-rows
-overflow_sub-rows c =
-    let r = rows_there _ _ _ c.check_path-checked.ensures c.if-checked-ne0.false in
-    omega arith
-
-pub first_link-requires : goal.first_link-requires
-first_link-requires c =
-    let r = rows_there _ _ _ c.check_path-checked.ensures c.if-checked-ne0.false in
-    omega arith
-
-pub steps_of-steps-requires : goal.steps_of-steps-requires
-steps_of-steps-requires c =
-    let r = rows_there _ _ _ c.check_path-checked.ensures c.if-checked-ne0.false in
-    omega arith
+overflow_sub-rows c = omega (arith, rows_there _ _ _ c.in_ok-rows.ensures)
 
 pub overflow_sub-rows-2 : goal.overflow_sub-rows-2
-overflow_sub-rows-2 c =
-    let r = rows_there _ _ _ c.check_path-checked.ensures c.if-checked-ne0.false in
-    omega arith
+overflow_sub-rows-2 c = omega (arith, rows_there _ _ _ c.in_ok-rows.ensures)
 
-pub field_at-op-requires : goal.field_at-op-requires
-field_at-op-requires c =
-    let r = rows_there _ _ _ c.check_path-checked.ensures c.if-checked-ne0.false in
-    (omega arith, omega arith)
+pub returns-in-Some : goal.returns-in-Some
+returns-in-Some c =
+    let k = rw c.in-Some.is at c.steps_of-steps.ensures.counting in
+    refuses _ _ _ (StepCounts c.in-Some.step) (step_counts _ _ _ c.in_ok-rows.ensures _ _ _ c.first_link.ensures.0 c.op_at-op.ensures _ k.0 k.1)
 
-pub given-requires : goal.given-requires
-given-requires c =
-    let r = rows_there _ _ _ c.check_path-checked.ensures c.if-checked-ne0.false in
-    omega arith
+pub returns-in-Some-attribute : goal.returns-in-Some-attribute
+returns-in-Some-attribute c =
+    let k = rw c.in-Some-attribute.is at c.steps_of-steps.ensures.attribute in
+    refuses _ _ _ (StepOnAttributes c.in-Some-attribute.step)
+    (step_of_attributes _ _ _ c.in_ok-rows.ensures _ _ _ c.first_link.ensures.0 c.op_at-op.ensures (rw c.in_default.is at c.steps_of-steps.ensures.counting) _ k.0 k.1)
 
-pub returns-then-first-gt0 : goal.returns-then-first-gt0
-returns-then-first-gt0 c =
-    refused _ _ _ _ _ _ c.given.ensures
-    (step_counts _ _ _ c.check_path-checked.ensures c.if-checked-ne0.false _ _ _ _ _ _ c.row_count-rows.ensures c.first_link.ensures.0 c.steps_of-steps.ensures.0.1 c.steps_of-steps.ensures.0.2 c.field_at-op.ensures.0 c.if-first-gt0.true)
-    (omega arith)
+pub returns-then-eq : goal.returns-then-eq
+returns-then-eq c =
+    refuses _ _ _ AbsolutePath
+    (is_absolute_lem _ _ _ c.in_ok-rows.ensures _ _ _ c.first_link.ensures.0 c.op_at-op.ensures (rw c.in_default.is at c.steps_of-steps.ensures.counting)
+    (rw c.in_default-attribute.is at c.steps_of-steps.ensures.attribute) (same_true the_type (search rules) _ _ (sym c.if-eq.ensures)))
 
-pub given-requires-then-attribute-gt0 : goal.given-requires-then-attribute-gt0
-given-requires-then-attribute-gt0 c =
-    let r = rows_there _ _ _ c.check_path-checked.ensures c.if-checked-ne0.false in
-    omega arith
+pub overflow_cast-result-then-needed-gt-MOST_ROWS : goal.overflow_cast-result-then-needed-gt-MOST_ROWS
+overflow_cast-result-then-needed-gt-MOST_ROWS c = omega (arith, rows_there _ _ _ c.in_ok-rows.ensures)
 
-pub returns-then-attribute-gt0 : goal.returns-then-attribute-gt0
-returns-then-attribute-gt0 c =
-    refused _ _ _ _ _ _ c.given-then-attribute-gt0.ensures
-    (step_of_attributes _ _ _ c.check_path-checked.ensures c.if-checked-ne0.false _ _ _ _ _ _ c.row_count-rows.ensures c.first_link.ensures.0 c.steps_of-steps.ensures.0.1 c.steps_of-steps.ensures.0.2 c.field_at-op.ensures.0 c.if-first-gt0.false c.if-attribute-gt0.true)
-    (omega arith)
-
-pub returns-then-op-eq-ABSOLUTE : goal.returns-then-op-eq-ABSOLUTE
-returns-then-op-eq-ABSOLUTE c =
-    refused _ _ _ _ _ _ c.given-then-op-eq-ABSOLUTE.ensures
-    (is_absolute_lem _ _ _ c.check_path-checked.ensures c.if-checked-ne0.false _ _ _ _ _ _ c.row_count-rows.ensures c.first_link.ensures.0 c.steps_of-steps.ensures.0.1 c.steps_of-steps.ensures.0.2 c.field_at-op.ensures.0 c.if-first-gt0.false c.if-attribute-gt0.false c.if-op-eq-ABSOLUTE.true)
-    (omega arith)
-
-pub given-requires-then-full : goal.given-requires-then-full
-given-requires-then-full c =
-    let r = rows_there _ _ _ c.check_path-checked.ensures c.if-checked-ne0.false in
-    omega arith
-
-pub returns-then-full : goal.returns-then-full
-returns-then-full c =
-    refused _ _ _ _ _ _ c.given-then-full.ensures
-    (no_room _ _ _ c.check_path-checked.ensures c.if-checked-ne0.false _ _ _ _ _ _ c.row_count-rows.ensures c.first_link.ensures.0 c.steps_of-steps.ensures.0.1 c.steps_of-steps.ensures.0.2 c.field_at-op.ensures.0 c.if-first-gt0.false c.if-attribute-gt0.false
-    c.if-op-eq-ABSOLUTE.false _ _ _ c.below.ensures c.below-2.ensures c.either-full.ensures c.if-full.true)
-    (omega arith)
+pub returns-then-needed-gt-MOST_ROWS : goal.returns-then-needed-gt-MOST_ROWS
+returns-then-needed-gt-MOST_ROWS c =
+    let free = rw c.in_default.is at c.steps_of-steps.ensures.counting in
+    let usual = rw c.in_default-attribute.is at c.steps_of-steps.ensures.attribute in
+    refuses _ _ _ (NoRoomToTurn (c.in_ok-rows.field-0 + 1))
+    (elim c.then-needed-gt-MOST_ROWS.branch [
+      | then-needed-gt-MOST_ROWS-via-then-needed-gt-MOST_ROWS w ↦ too_many _ _ _ c.in_ok-rows.ensures _ _ _ c.first_link.ensures.0 c.op_at-op.ensures free usual (relative _ (sym c.if-eq.ensures)) w.if-needed-gt-MOST_ROWS.true
+      | then-needed-gt-MOST_ROWS-via-else-needed-gt-MOST_ROWS+then-out-needed w ↦ too_short _ _ _ c.in_ok-rows.ensures _ _ _ c.first_link.ensures.0 c.op_at-op.ensures free usual (relative _ (sym c.if-eq.ensures)) w.if-needed-gt-MOST_ROWS.false w.if-out-needed.true
+    ])
 
 pub write_turned-requires : goal.write_turned-requires
 write_turned-requires c =
-    is_turnable _ _ _ c.check_path-checked.ensures c.if-checked-ne0.false _ _ _ _ _ _ c.row_count-rows.ensures c.first_link.ensures.0 c.steps_of-steps.ensures.0.1 c.steps_of-steps.ensures.0.2 c.field_at-op.ensures.0 c.if-first-gt0.false c.if-attribute-gt0.false
-    c.if-op-eq-ABSOLUTE.false _ _ _ c.below.ensures c.below-2.ensures c.either-full.ensures _ refl c.if-full.false
-
-pub overflow_add-rows-3 : goal.overflow_add-rows-3
-overflow_add-rows-3 c =
-    let r = rows_there _ _ _ c.check_path-checked.ensures c.if-checked-ne0.false in
-    search rules
-
-pub given-requires-2 : goal.given-requires-2
-given-requires-2 c =
-    let r = rows_there _ _ _ c.check_path-checked.ensures c.if-checked-ne0.false in
-    omega arith
+    is_turnable _ _ _ c.in_ok-rows.ensures _ _ _ c.first_link.ensures.0 c.op_at-op.ensures (rw c.in_default.is at c.steps_of-steps.ensures.counting)
+    (rw c.in_default-attribute.is at c.steps_of-steps.ensures.attribute) (relative _ (sym c.if-eq.ensures)) _ refl c.if-needed-gt-MOST_ROWS.false c.if-out-needed.false
 
 pub returns : goal.returns
 returns c =
-    turned_round _ _ _ _ _ _ c.given-2.ensures
-    (is_turned _ _ _ c.check_path-checked.ensures c.if-checked-ne0.false _ _ _ _ _ _ c.row_count-rows.ensures c.first_link.ensures.0 c.steps_of-steps.ensures.0.1 c.steps_of-steps.ensures.0.2 c.field_at-op.ensures.0 c.if-first-gt0.false c.if-attribute-gt0.false
-    c.if-op-eq-ABSOLUTE.false _ _ _ c.below.ensures c.below-2.ensures c.either-full.ensures c.if-full.false)
+    turned_round _ _ _ _ _
+    (is_turned _ _ _ c.in_ok-rows.ensures _ _ _ c.first_link.ensures.0 c.op_at-op.ensures (rw c.in_default.is at c.steps_of-steps.ensures.counting)
+    (rw c.in_default-attribute.is at c.steps_of-steps.ensures.attribute) (relative _ (sym c.if-eq.ensures)) c.if-needed-gt-MOST_ROWS.false c.if-out-needed.false)
     c.write_turned.ensures
