@@ -2,25 +2,21 @@
 -- A gathered scalar is read as a test of a number (is it below the scalar, or above?), flags as a test of a row; so one
 -- statement, `Gathered`, serves them all, and an axis is a window on the rows whose test the scalar answers.
 -- Assumes nothing.
-use Prim.Native.Nat.{ℕ, suc, ◌+◌, ◌-◌, ◌<◌, ◌≤◌}
-use mathlib.Core.Path.{◌≡◌, refl, sym, ap, ◌∙◌}
-use mathlib.Core.Logic.{◌⊎◌, inl, inr}
-use mathlib.Core.Bool.{Bool, true, false, ◌&&◌, ◌||◌, not, cond, and-true, and-false, and_assoc, or-false, or_comm, and_comm, false≢true}
-use mathlib.Core.List.{List}
-use lib.Dec.{T, leb, ltb, eqb}
-use lib.ListN.{length, get_or, set, length-set}
-use lib.Seq.{get_or-set_other, get_or-set_same}
-use native.Mathlib.Omega.{arith}
-use native.Mathlib.Numerals.{add-one}
+use Rattle.std.proofs.Common.{◌≡◌, refl, sym, ap, ◌∙◌, ◌⊎◌, inl, inr, ℕ, suc, ◌+◌, ◌-◌, ◌<◌, ◌≤◌, max, min, Bool, true, false, ◌&&◌, ◌||◌, not, List, length, get_or, arith, add-one, eqb, ltb, leb}
+use Rattle.std.proofs.lemmas.List.{length-set, get_or-set_other, get_or-set_same}
+use mathlib.Core.Bool.{and-true, and-false, and_assoc, or-false, or_comm, and_comm}
+use lib.ListN.{set}
 use borrow.Author.Tests.{lt-ltb, le-ltb, ne_eqb}
 use Rattle.meaning.specs.Lists.{up_to, some}
 use Rattle.meaning.specs.Table.{rows, parent_of, end, is_attribute}
-use Rattle.meaning.specs.Axis.{under, inside, on}
+use Rattle.meaning.specs.Axis.{under, inside, after, on}
 use Rattle.meaning.specs.declared.Axis.TheVariants.{FollowingSibling, Itself, PrecedingSibling}
 use Rattle.meaning.proofs.Bools.{lt_or_ge, eq_or_ne, eqb_sym}
 use Rattle.meaning.proofs.Lists.{some_last, some_same}
-use Rattle.meaning.proofs.Windows.{some_below, some_and, some_at, some_at_or, up_from, window_below, window_above, leb_ltb}
+use Rattle.meaning.proofs.Windows.{some_below, some_and, some_at, some_at_or, up_from, window_below, window_above, leb_ltb, after_is}
 use Rattle.meaning.proofs.Marks.{Wrote, WroteDown, wrote_all, down_all, set_if}
+use Rattle.reach.specs.declared.Asked.{Asked}
+use Rattle.reach.specs.declared.Asked.TheVariants.{Plain}
 use Rattle.reach.specs.Reach.{hit, Hits, Rooted, admitted, beyond}
 
 -- ---- gathering
@@ -54,19 +50,32 @@ module _ (B : ℕ) (g : ℕ → ℕ → Bool) (from : ℕ → Bool) where
 
 -- ---- the running scalars
 
--- v is marked and better than a, by the test b, so it is taken: what a answers, v answers as well
-pub taken : (marked b by-a by-v : Bool) → (marked && b) ≡ true → (b ≡ true → T by-a → T by-v) → by-v ≡ (by-a || (marked && by-v))
-taken true b true true e h = refl
-taken true b true false e h = absurd (h e tt)
-taken true b false by-v e h = refl
-taken false b by-a by-v e h = absurd (false≢true e)
+-- what is below the larger of two is below one of them
+pub below_max : (y a v : ℕ) → ltb y (max a v) ≡ (ltb y a || ltb y v)
+below_max y a v = elim (lt_or_ge y a) [
+  | inl l ↦ rw (lt-ltb y a l, lt-ltb y (max a v) (omega arith))
+  | inr l ↦ rw (le-ltb y a l) (elim (lt_or_ge y v) [
+    | inl k ↦ rw (lt-ltb y v k, lt-ltb y (max a v) (omega arith))
+    | inr k ↦ rw (le-ltb y v k, le-ltb y (max a v) (omega arith))
+  ])
+]
 
--- v is not marked or not better, so a stays: what v answers, a answers as well
-pub left : (marked b by-a by-v : Bool) → (marked && b) ≡ false → (b ≡ false → T by-v → T by-a) → by-a ≡ (by-a || (marked && by-v))
-left true b true by-v e h = refl
-left true b false true e h = absurd (h e tt)
-left true b false false e h = refl
-left false b by-a by-v e h = sym (or-false by-a)
+-- what is above the smaller of two is above one of them
+pub above_min : (y a v : ℕ) → ltb (min a v) y ≡ (ltb a y || ltb v y)
+above_min y a v = elim (lt_or_ge a y) [
+  | inl l ↦ rw (lt-ltb a y l, lt-ltb (min a v) y (omega arith))
+  | inr l ↦ rw (le-ltb a y l) (elim (lt_or_ge v y) [
+    | inl k ↦ rw (lt-ltb v y k, lt-ltb (min a v) y (omega arith))
+    | inr k ↦ rw (le-ltb v y k, le-ltb (min a v) y (omega arith))
+  ])
+]
+
+-- a row that gives is taken, and one that does not leaves what was
+pub taken : (given a v r : Bool) → given ≡ true → r ≡ (a || v) → r ≡ (a || (given && v))
+taken given a v r e h = rw e h
+
+pub left : (given a v r : Bool) → given ≡ false → r ≡ a → r ≡ (a || (given && v))
+left given a v r e h = rw e (h ∙ sym (or-false a))
 
 -- ---- what rows give, and what is taken of it
 
@@ -78,19 +87,14 @@ marked from x = get_or from x false
 unfoldable pub giving : List Bool → (ℕ → Bool) → ℕ → Bool
 giving from give x = get_or from x false && give x
 
-pub gives : (from : List Bool) (give : ℕ → Bool) (x : ℕ) (f a r : Bool) → f ≡ get_or from x false → a ≡ give x → r ≡ (f && a) → r ≡ giving from give x
+pub gives : (from : List Bool) (give : ℕ → Bool) (x : ℕ) (f a : Bool) → f ≡ get_or from x false → a ≡ give x → (f && a) ≡ giving from give x
 unfolding giving
-gives from give x f a r is-marked may is-both = rw (← is-marked, ← may) is-both
+gives from give x f a is-marked may = rw (← is-marked, ← may)
 
 -- what is gathered from those that may give
 given_all : (from : List Bool) (give : ℕ → Bool) (g : ℕ → ℕ → Bool) (y : ℕ) (l : List ℕ) → some (λ x. giving from give x && g x y) l ≡ some (λ x. get_or from x false && (give x && g x y)) l
 unfolding giving
 given_all from give g y l = some_same _ _ l (λ x. and_assoc (get_or from x false) (give x) (g x y))
-
-pub given_gathered : (B : ℕ) (g : ℕ → ℕ → Bool) (from : List Bool) (give : ℕ → Bool) (i n : ℕ) (v : ℕ → Bool) → Gathered B g (giving from give) (up_to i) v → i ≡ n
-    → (y : ℕ) → y < B → v y ≡ some (λ x. get_or from x false && (give x && g x y)) (up_to n)
-unfolding Gathered
-given_gathered B g from give i n v h e y l = rw (← e) (h y l ∙ given_all from give g y (up_to i))
 
 -- is y what r says of some row at which `from` holds?
 abbrev pub met : List ℕ → (ℕ → ℕ → Bool) → (ℕ → Bool) → ℕ → Bool
@@ -118,31 +122,6 @@ pub hits_alike : (t : List ℕ) (r s : ℕ → ℕ → Bool) (from to : List Boo
 unfolding Hits hit
 hits_alike t r s from to h e y l = h y l ∙ some_same _ _ (up_to (rows t)) (λ x. rw (e x y))
 
--- all rows, all but attributes, attributes alone
-pub admits_all : (t : List ℕ) (i : ℕ) → admitted t true true i ≡ true
-unfolding admitted
-admits_all t i = by (is_attribute t i)
-  where
-    by : (b : Bool) → cond b true true ≡ true
-    by true = refl
-    by false = refl
-
-pub admits_others : (t : List ℕ) (i : ℕ) → admitted t true false i ≡ not (is_attribute t i)
-unfolding admitted
-admits_others t i = by (is_attribute t i)
-  where
-    by : (b : Bool) → cond b false true ≡ not b
-    by true = refl
-    by false = refl
-
-pub admits_attributes : (t : List ℕ) (i : ℕ) → admitted t false true i ≡ is_attribute t i
-unfolding admitted
-admits_attributes t i = by (is_attribute t i)
-  where
-    by : (b : Bool) → cond b true false ≡ b
-    by true = refl
-    by false = refl
-
 -- ---- what each pass reaches
 
 -- the parent of a row does not stand after it
@@ -155,14 +134,28 @@ abbrev pub over : List ℕ → ℕ → ℕ → Bool
 over t x y = under t y x
 
 -- the flag of row i's parent is set where row i gives
-pub flag_step : (t : List ℕ) (s : List Bool) (i p : ℕ) (f r m b : Bool) → p ≡ parent_of t i → b ≡ ltb 0 i → m ≡ (f && b) → r ≡ (get_or s p false || m) → p < length s → (q : ℕ) → get_or (set s p r) q false ≡ (get_or s q false || (f && over t i q))
+pub flag_step : (t : List ℕ) (s : List Bool) (i : ℕ) (f : Bool) → parent_of t i < length s → (q : ℕ)
+    → get_or (set s (parent_of t i) (get_or s (parent_of t i) false || (f && ltb 0 i))) q false ≡ (get_or s q false || (f && over t i q))
 unfolding under
-flag_step t s i p f r m b is-parent is_below is-both is-either l q = rw is-either (set_if s p m l q ∙ rw (is-both, is_below, is-parent, and_assoc f (ltb 0 i) (eqb (parent_of t i) q)))
+flag_step t s i f l q = set_if s (parent_of t i) (f && ltb 0 i) l q ∙ rw (and_assoc f (ltb 0 i) (eqb (parent_of t i) q))
 
 swap : (a b c : Bool) → (a && (b && c)) ≡ (b && (a && c))
 swap true b c = refl
 swap false true c = refl
 swap false false c = refl
+
+-- what is after a row is later
+after_later : (t : List ℕ) (x y : ℕ) → after t x y ≡ (ltb x y && after t x y)
+unfolding after
+after_later t x y = twice (ltb x y) (not (inside t x y))
+  where
+    twice : (a b : Bool) → (a && b) ≡ (a && (a && b))
+    twice true b = refl
+    twice false b = refl
+
+later : (f l a : Bool) → a ≡ (l && a) → (f && a) ≡ (l && (f && a))
+later true l a e = e
+later false l a e = sym (and-false l)
 
 module _ (t : List ℕ) (from : ℕ → Bool) (y : ℕ) (low : y < rows t) where
   -- inside another: some end of a row behind y is not before it
@@ -179,6 +172,20 @@ module _ (t : List ℕ) (from : ℕ → Bool) (y : ℕ) (low : y < rows t) where
       (some_below (λ x. from x && (ltb y x && leb x (end t y))) (λ x. ltb y x && (from x && ltb x (end t y + 1))) (rows t) (λ x l. rw (leb_ltb x (end t y)) (swap (from x) (ltb y x) (ltb x (end t y + 1))))
       ∙ window_above (λ x. from x && ltb x (end t y + 1)) (rows t) y)
 
+  -- after another and not inside it: the least end of the rows behind y is before it
+  after_met : (v : ℕ → Bool) → Gathered (beyond + 1) (λ x z. ltb (end t x) z) from (up_to y) v → y ≤ beyond → v y ≡ met t (after t) from y
+  unfolding Gathered
+  after_met v h b = h y (omega arith) ∙ sym
+      (some_below (λ x. from x && after t x y) (λ x. ltb x y && (from x && ltb (end t x) y)) (rows t) (λ x l. rw (← after_is t x y) (later (from x) (ltb x y) (after t x y) (after_later t x y)))
+      ∙ window_below (λ x. from x && ltb (end t x) y) (rows t) y (omega arith))
+
+  -- before another and not around it: the last of the rows after y is past its end
+  before_met : (v : ℕ → Bool) → Gathered (beyond + 1) (λ x z. ltb z x) from (up_from (y + 1) (rows t - (y + 1))) v → end t y < beyond → v (end t y) ≡ met t (λ x z. after t z x) from y
+  unfolding Gathered
+  before_met v h b = h (end t y) (omega arith) ∙ sym
+      (some_below (λ x. from x && after t y x) (λ x. ltb y x && (from x && ltb (end t y) x)) (rows t) (λ x l. rw (← after_is t y x) (later (from x) (ltb y x) (after t y x) (after_later t y x)))
+      ∙ window_above (λ x. from x && ltb (end t y) x) (rows t) y)
+
 module _ (t : List ℕ) (from : List Bool) (y : ℕ) (low : y < rows t) where
   -- the parent was marked
   pub under_hit : Rooted t → (ltb 0 y && get_or from (parent_of t y) false) ≡ hit t (under t) from y
@@ -192,35 +199,38 @@ module _ (t : List ℕ) (from : List Bool) (y : ℕ) (low : y < rows t) where
       regroup a false c = and-false a
 
   -- inside and around, of marks: those taken, and those that give
-  pub inside_hit : (own attributes : Bool) (v : ℕ → Bool) → Gathered (beyond + 1) (λ x z. ltb z (end t x + 1)) (marked from) (up_to y) v → y ≤ beyond
-      → ((own && get_or from y false) || (v y && admitted t true attributes y)) ≡ hit t (λ x z. (own && eqb x z) || (inside t x z && admitted t true attributes z)) from y
-  inside_hit own attributes v h b =
+  pub inside_hit : (own : Bool) (taken : Asked) (v : ℕ → Bool) → Gathered (beyond + 1) (λ x z. ltb z (end t x + 1)) (marked from) (up_to y) v → y ≤ beyond
+      → ((own && get_or from y false) || (v y && admitted t taken y)) ≡ hit t (λ x z. (own && eqb x z) || (inside t x z && admitted t taken z)) from y
+  inside_hit own taken v h b =
       let met-inside : v y ≡ hit t (inside t) from y = unfold hit in inside_met t (marked from) y low v h b in
-      rw (met-inside, hit_take t (inside t) from y (admitted t true attributes)) (hit_own t (λ x z. inside t x z && admitted t true attributes z) from y own low)
+      rw (met-inside, hit_take t (inside t) from y (admitted t taken)) (hit_own t (λ x z. inside t x z && admitted t taken z) from y own low)
 
-  pub around_hit : (own attributes : Bool) (v : ℕ → Bool) → Gathered (beyond + 1) ltb (giving from (admitted t true attributes)) (up_from (y + 1) (rows t - (y + 1))) v → end t y < beyond
-      → ((own && get_or from y false) || v (end t y + 1)) ≡ hit t (λ x z. (own && eqb x z) || (admitted t true attributes x && inside t z x)) from y
-  around_hit own attributes v h b =
-      rw (around_met t (giving from (admitted t true attributes)) y low v h b, hit_give t (λ x z. inside t z x) from y (admitted t true attributes)) (hit_own t (λ x z. admitted t true attributes x && inside t z x) from y own low)
+  pub around_hit : (own : Bool) (given : Asked) (v : ℕ → Bool) → Gathered (beyond + 1) ltb (giving from (admitted t given)) (up_from (y + 1) (rows t - (y + 1))) v → end t y < beyond
+      → ((own && get_or from y false) || v (end t y + 1)) ≡ hit t (λ x z. (own && eqb x z) || (admitted t given x && inside t z x)) from y
+  around_hit own given v h b =
+      rw (around_met t (giving from (admitted t given)) y low v h b, hit_give t (λ x z. inside t z x) from y (admitted t given)) (hit_own t (λ x z. admitted t given x && inside t z x) from y own low)
 
--- a row that r takes of those that give, after them or before them, where a bound gathered of all rows answers r
-module _ (t : List ℕ) (from : List Bool) (y : ℕ) (given taken v : Bool) where
-  pub bound_hit : (r : ℕ → ℕ → Bool) (bound : ℕ → Bool) → ((x : ℕ) → bound x ≡ r x y) → v ≡ some (λ x. get_or from x false && (admitted t true given x && bound x)) (up_to (rows t))
-      → (v && admitted t true taken y) ≡ hit t (λ x z. (admitted t true given x && r x z) && admitted t true taken z) from y
-  bound_hit r bound answers e =
-      let met-r : v ≡ hit t (λ x z. admitted t true given x && r x z) from y = unfold hit in (e ∙ some_same _ _ (up_to (rows t)) (λ x. rw (answers x))) in
-      rw met-r (hit_take t (λ x z. admitted t true given x && r x z) from y (admitted t true taken))
+  -- after and before, the same way
+  pub after_hit : (given taken : Asked) (v : ℕ → Bool) → Gathered (beyond + 1) (λ x z. ltb (end t x) z) (giving from (admitted t given)) (up_to y) v → y ≤ beyond
+      → (v y && admitted t taken y) ≡ hit t (λ x z. (admitted t given x && after t x z) && admitted t taken z) from y
+  after_hit given taken v h b =
+      rw (after_met t (giving from (admitted t given)) y low v h b, hit_give t (after t) from y (admitted t given)) (hit_take t (λ x z. admitted t given x && after t x z) from y (admitted t taken))
+
+  pub before_hit : (given taken : Asked) (v : ℕ → Bool) → Gathered (beyond + 1) (λ x z. ltb z x) (giving from (admitted t given)) (up_from (y + 1) (rows t - (y + 1))) v → end t y < beyond
+      → (v (end t y) && admitted t taken y) ≡ hit t (λ x z. (admitted t given x && after t z x) && admitted t taken z) from y
+  before_hit given taken v h b =
+      rw (before_met t (giving from (admitted t given)) y low v h b, hit_give t (λ x z. after t z x) from y (admitted t given)) (hit_take t (λ x z. admitted t given x && after t z x) from y (admitted t taken))
 
 -- siblings: no attribute gives, and none is taken
 module _ (t : List ℕ) (from : List Bool) (y : ℕ) (low : y < rows t) where
   -- a later sibling: y's parent is flagged by the rows behind y
-  pub later_hit : Rooted t → (v : ℕ → Bool) → Gathered (rows t) (over t) (giving from (admitted t true false)) (up_to y) v → (v (parent_of t y) && admitted t true false y) ≡ hit t (on t FollowingSibling) from y
-  unfolding Gathered hit on under giving
-  later_hit r v h =
-      ap (λ (b : Bool). b && admitted t true false y) (h (parent_of t y) (omega (arith, rooted t r y low))
-      ∙ sym (window_below (λ x. giving from (admitted t true false) x && over t x (parent_of t y)) (rows t) y (omega arith)))
-      ∙ sym (some_and (λ x. ltb x y && (giving from (admitted t true false) x && over t x (parent_of t y))) (admitted t true false y) (up_to (rows t)))
-      ∙ some_same _ _ (up_to (rows t)) (λ x. rw (admits_others t y, admits_others t x) (regroup (ltb x y) (get_or from x false) (not (is_attribute t x)) (ltb 0 x) (eqb (parent_of t x) (parent_of t y)) (not (is_attribute t y))))
+  later_met : Rooted t → (v : ℕ → Bool) → Gathered (rows t) (over t) (giving from (admitted t Plain)) (up_to y) v → (v (parent_of t y) && admitted t Plain y) ≡ hit t (on t FollowingSibling) from y
+  unfolding Gathered hit on under giving admitted
+  later_met r v h =
+      ap (λ (b : Bool). b && admitted t Plain y) (h (parent_of t y) (omega (arith, rooted t r y low))
+      ∙ sym (window_below (λ x. giving from (admitted t Plain) x && over t x (parent_of t y)) (rows t) y (omega arith)))
+      ∙ sym (some_and (λ x. ltb x y && (giving from (admitted t Plain) x && over t x (parent_of t y))) (admitted t Plain y) (up_to (rows t)))
+      ∙ some_same _ _ (up_to (rows t)) (λ x. regroup (ltb x y) (get_or from x false) (not (is_attribute t x)) (ltb 0 x) (eqb (parent_of t x) (parent_of t y)) (not (is_attribute t y)))
     where
       regroup : (c a m b d n : Bool) → ((c && ((a && m) && (b && d))) && n) ≡ (a && ((((b && c) && d) && n) && m))
       regroup c false m b d n = rw (and-false c)
@@ -229,14 +239,14 @@ module _ (t : List ℕ) (from : List Bool) (y : ℕ) (low : y < rows t) where
       regroup false true true b d n = rw (and-false b)
 
   -- an earlier sibling: by the rows after y, and y is not row 0
-  pub earlier_hit : Rooted t → (v : ℕ → Bool) → Gathered (rows t) (over t) (giving from (admitted t true false)) (up_from (y + 1) (rows t - (y + 1))) v → ((ltb 0 y && v (parent_of t y)) && admitted t true false y) ≡ hit t (on t PrecedingSibling) from y
-  unfolding Gathered hit on under giving
-  earlier_hit r v h =
-      ap (λ (b : Bool). (ltb 0 y && b) && admitted t true false y) (h (parent_of t y) (omega (arith, rooted t r y low))
-      ∙ sym (window_above (λ x. giving from (admitted t true false) x && over t x (parent_of t y)) (rows t) y))
-      ∙ ap (λ (b : Bool). b && admitted t true false y) (and_comm (ltb 0 y) _ ∙ sym (some_and (λ x. ltb y x && (giving from (admitted t true false) x && over t x (parent_of t y))) (ltb 0 y) (up_to (rows t))))
-      ∙ sym (some_and (λ x. (ltb y x && (giving from (admitted t true false) x && over t x (parent_of t y))) && ltb 0 y) (admitted t true false y) (up_to (rows t)))
-      ∙ some_same _ _ (up_to (rows t)) (λ x. rw (admits_others t y, admits_others t x, eqb_sym (parent_of t y) (parent_of t x)) (by x (lt_or_ge y x) (lt_or_ge 0 y)))
+  earlier_met : Rooted t → (v : ℕ → Bool) → Gathered (rows t) (over t) (giving from (admitted t Plain)) (up_from (y + 1) (rows t - (y + 1))) v → ((ltb 0 y && v (parent_of t y)) && admitted t Plain y) ≡ hit t (on t PrecedingSibling) from y
+  unfolding Gathered hit on under giving admitted
+  earlier_met r v h =
+      ap (λ (b : Bool). (ltb 0 y && b) && admitted t Plain y) (h (parent_of t y) (omega (arith, rooted t r y low))
+      ∙ sym (window_above (λ x. giving from (admitted t Plain) x && over t x (parent_of t y)) (rows t) y))
+      ∙ ap (λ (b : Bool). b && admitted t Plain y) (and_comm (ltb 0 y) _ ∙ sym (some_and (λ x. ltb y x && (giving from (admitted t Plain) x && over t x (parent_of t y))) (ltb 0 y) (up_to (rows t))))
+      ∙ sym (some_and (λ x. (ltb y x && (giving from (admitted t Plain) x && over t x (parent_of t y))) && ltb 0 y) (admitted t Plain y) (up_to (rows t)))
+      ∙ some_same _ _ (up_to (rows t)) (λ x. rw (eqb_sym (parent_of t y) (parent_of t x)) (by x (lt_or_ge y x) (lt_or_ge 0 y)))
     where
       by : (x : ℕ) → (y < x) ⊎ (x ≤ y) → (0 < y) ⊎ (y ≤ 0) → ((ltb y x && ((get_or from x false && not (is_attribute t x)) && (ltb 0 x && eqb (parent_of t x) (parent_of t y)))) && ltb 0 y && not (is_attribute t y))
           ≡ (get_or from x false && (ltb 0 y && ltb y x && eqb (parent_of t x) (parent_of t y) && not (is_attribute t x) && not (is_attribute t y)))
@@ -248,6 +258,35 @@ module _ (t : List ℕ) (from : List Bool) (y : ℕ) (low : y < rows t) where
           stays true true d n = rw (and-true d)
       by x (inr l) q = rw (le-ltb y x l, and-false (ltb 0 y), and-false (get_or from x false))
       by x (inl l) (inr z) = rw (le-ltb 0 y z, and-false (get_or from x false), and-false (ltb y x && ((get_or from x false && not (is_attribute t x)) && (ltb 0 x && eqb (parent_of t x) (parent_of t y)))))
+
+  -- the two as a pass tells them
+  pub later_hit : Rooted t → (v : ℕ → Bool) → Gathered (rows t) (over t) (giving from (admitted t Plain)) (up_to y) v → (v (parent_of t y) && (ltb 0 y && admitted t Plain y)) ≡ hit t (on t FollowingSibling) from y
+  unfolding Gathered up_to some
+  later_hit r v h = elim (lt_or_ge 0 y) [
+    | inl p ↦ rw (lt-ltb 0 y p) (later_met r v h)
+    | inr z ↦ rw (none z) (rw (none z) at (later_met r v h))
+  ]
+    where
+      none : y ≤ 0 → v (parent_of t y) ≡ false
+      none z = let e : y ≡ 0 = omega arith in h (parent_of t y) (omega (arith, rooted t r y low)) ∙ rw e
+
+  pub earlier_hit : Rooted t → (v : ℕ → Bool) → Gathered (rows t) (over t) (giving from (admitted t Plain)) (up_from (y + 1) (rows t - (y + 1))) v → (v (parent_of t y) && (ltb 0 y && admitted t Plain y)) ≡ hit t (on t PrecedingSibling) from y
+  earlier_hit r v h = regroup (v (parent_of t y)) (ltb 0 y) (admitted t Plain y) ∙ earlier_met r v h
+    where
+      regroup : (a b c : Bool) → (a && (b && c)) ≡ ((b && a) && c)
+      regroup true b c = rw (and-true b)
+      regroup false b c = rw (and-false b)
+
+-- a sibling that gives flags its parent
+pub sibling_flag : (t : List ℕ) (s : List Bool) (i : ℕ) (m a : Bool) → parent_of t i < length s → (q : ℕ)
+    → get_or (set s (parent_of t i) (get_or s (parent_of t i) false || (m && (ltb 0 i && a)))) q false ≡ (get_or s q false || ((m && a) && over t i q))
+unfolding under
+sibling_flag t s i m a l q = set_if s (parent_of t i) (m && (ltb 0 i && a)) l q ∙ ap (λ (b : Bool). get_or s q false || b) (regroup m (ltb 0 i) a (eqb (parent_of t i) q))
+  where
+    regroup : (m b a d : Bool) → ((m && (b && a)) && d) ≡ ((m && a) && (b && d))
+    regroup true b true d = rw (and-true b)
+    regroup true b false d = rw (and-false b)
+    regroup false b a d = refl
 
 -- ---- marks written for every row
 
@@ -297,11 +336,11 @@ pub handed_start : (now : List Bool) (q : ℕ) → handed 0 now q ≡ false
 handed_start now q = rw (le-ltb q 0 (omega arith))
 
 -- row i's mark is taken off and handed to its parent
-pub handed_more : (t : List ℕ) (now : List Bool) (i p : ℕ) (f r m b : Bool) → p ≡ parent_of t i → p ≤ i → b ≡ ltb 0 i → m ≡ (f && b) → r ≡ (get_or (set now i false) p false || m) → i < length now → (q : ℕ)
-    → handed (i + 1) (set (set now i false) p r) q ≡ (handed i now q || (f && over t i q))
+pub handed_more : (t : List ℕ) (now : List Bool) (i : ℕ) (f : Bool) → parent_of t i ≤ i → i < length now → (q : ℕ)
+    → handed (i + 1) (set (set now i false) (parent_of t i) (get_or (set now i false) (parent_of t i) false || (f && ltb 0 i))) q ≡ (handed i now q || (f && over t i q))
 unfolding under
-handed_more t now i p f r m b is-parent before is_below is-both is-either l q =
-    ap (λ (c : Bool). ltb q (i + 1) && c) (flag_step t (set now i false) i p f r m b is-parent is_below is-both is-either (simp length-set (omega arith)) q)
+handed_more t now i f before l q =
+    ap (λ (c : Bool). ltb q (i + 1) && c) (flag_step t (set now i false) i f (simp length-set (omega arith)) q)
     ∙ by_place (lt_or_ge q i)
   where
     given : Bool
@@ -316,7 +355,7 @@ handed_more t now i p f r m b is-parent before is_below is-both is-either l q =
         at_or_after (inr e) = rw (le-ltb q (i + 1) (omega (arith, e))) (sym nothing)
           where
             nothing : given ≡ false
-            nothing = rw (ne_eqb (parent_of t i) q (λ d. absurd (omega (arith, is-parent))), and-false (ltb 0 i)) (and-false f)
+            nothing = rw (ne_eqb (parent_of t i) q (λ d. absurd (omega (arith, d))), and-false (ltb 0 i)) (and-false f)
 
 pub handed_hits : (t : List ℕ) (give : ℕ → Bool) (old now : List Bool) (i : ℕ) → Gathered (rows t) (over t) (giving old give) (up_to i) (handed i now) → i ≡ rows t → Hits t (λ x y. give x && over t x y) old now
 unfolding Gathered Hits

@@ -1,191 +1,155 @@
-// The union of an axis over a set of nodes, as marks, in place, in one or two passes over the rows
-// (document 01, "Meaning": each step takes every node of the set so far, and the union goes on).
-// A pass carries what it has gathered from the marked rows behind it: the furthest end, the nearest row, the least end,
-// the last row, or a flag for each parent. It reads a row's mark before it writes it.
+// The union of an axis over a set of nodes, as marks, in place, in one pass over the rows (each step takes every node of the set so
+// far, and the union goes on). A pass carries what it has gathered from the marked rows behind it: the furthest end, the nearest row,
+// the least end, the last row, or a flag for each parent. It reads a row's mark before it writes it. Tests are joined by & and |, which
+// read both sides, so that no branch hangs on a mark.
 #![tactic(auto)]
 
-ghost use Rattle.std.specs.Prelude.{◌≡◌, true, false, ◌&&◌, ◌||◌, ℕ, ◌<◌, ◌≤◌, ltb, eqb, length, get_or};
-ghost use Rattle.meaning.specs.Lists.{up_to, some};
-ghost use Rattle.meaning.specs.Table.{most_rows, rows, end};
-ghost use Rattle.meaning.specs.Axis.{axis_of, under, inside, after, on};
+ghost use Rattle.std.specs.Prelude.{◌≡◌, true, false, ◌&&◌, ◌||◌, ℕ, ◌<◌, ◌≤◌, ltb, eqb, length, get_or, slice_set};
+ghost use Rattle.meaning.specs.Table.{most_rows, rows, parent_of};
+ghost use Rattle.meaning.specs.Axis.{under, inside, after, on};
 ghost use Rattle.meaning.specs.declared.Axis.TheVariants.{FollowingSibling, PrecedingSibling};
-ghost use Rattle.reach.specs.Reach.{Hits, Room, admitted, beyond};
+ghost use Rattle.reach.specs.declared.Asked.TheVariants.{Plain};
+ghost use Rattle.reach.specs.Reach.{Hits, Room, admitted};
 
-use basics::{below, both, either};
-use meaning::MOST_ROWS;
+use meaning::{Axis, MOST_ROWS};
 use table::{end_at, is_attribute, parent_at, row_count};
 
-// A number that no subtree's end reaches.
+// A number that no subtree's end reaches, the least of no rows. No Option: it would be matched at every row, where one comparison serves.
 const BEYOND: usize = 8589934592;
 
-// The larger of a and, where marked, v.
-fn larger_if(a: usize, marked: bool, v: usize) -> usize
-    ensures { (y : ℕ) → ltb y result ≡ (ltb y a || (marked && ltb y v)) }
-{
-    if both(marked, a < v) { v } else { a }
+// The rows that are asked for: all, all but attributes, or attributes alone.
+#[derive(Clone, Copy)]
+enum Asked {
+    All,
+    Plain,
+    Attributes,
 }
 
-// The smaller of a and, where marked, v.
-fn smaller_if(a: usize, marked: bool, v: usize) -> usize
-    ensures { (y : ℕ) → ltb result y ≡ (ltb a y || (marked && ltb v y)) }
-{
-    if both(marked, v < a) { v } else { a }
-}
-
-// Is row i one of those asked for: of the attributes, of the other rows, or both?
-fn admits(table: &[u32], others: bool, attributes: bool, i: usize) -> bool
+// Is row i one of those asked for?
+#[tactic(auto, unfolding(crate::specs::Reach::admitted))]
+fn admits(table: &[u32], asked: Asked, i: usize) -> bool
     requires { i < rows table.now }
-    ensures { result ≡ admitted table.now others attributes i }
+    ensures { result ≡ admitted table.now asked i }
 {
-    if is_attribute(table, i) {
-        attributes
-    } else {
-        others
+    match asked {
+        Asked::All => true,
+        Asked::Plain => !is_attribute(table, i),
+        Asked::Attributes => is_attribute(table, i),
     }
 }
 
-// A row is marked if its parent was and it is one of those asked for, from the last row down. Row 0 is nobody's child.
-fn mark_under(table: &[u32], others: bool, attributes: bool, marks: &mut [bool])
+// A row is marked if its parent was and it is one of those taken, from the last row down. Row 0 is nobody's child.
+fn mark_under(table: &[u32], taken: Asked, marks: &mut [bool])
     requires { Room table.now marks.old }
-    ensures { Hits table.now (λ x y. under table.now x y && admitted table.now others attributes y) marks.old marks.new }
+    ensures { Hits table.now (λ x y. under table.now x y && admitted table.now taken y) marks.old marks.new }
 {
-    let mut i = row_count(table);
-    while 0 < i {
-        i -= 1;
-        let p = parent_at(table, i);
-        let child = both(below(0, i), marks[p]);
-        marks[i] = both(child, admits(table, others, attributes, i));
+    for i in (0..row_count(table)).rev() {
+        let marked = marks[parent_at(table, i)];
+        marks[i] = (0 < i) & marked & admits(table, taken, i);
     }
 }
 
-// Each marked row that is one of those asked for hands its mark to its parent, which stands before it.
-fn mark_over(table: &[u32], others: bool, attributes: bool, marks: &mut [bool])
+// Each marked row that is one of those that give hands its mark to its parent, which stands before it.
+fn mark_over(table: &[u32], given: Asked, marks: &mut [bool])
     requires { Room table.now marks.old }
-    ensures { Hits table.now (λ x y. admitted table.now others attributes x && under table.now y x) marks.old marks.new }
+    ensures { Hits table.now (λ x y. admitted table.now given x && under table.now y x) marks.old marks.new }
 {
-    let n = row_count(table);
-    let mut i = 0;
-    while i < n {
+    for i in 0..row_count(table) {
         let p = parent_at(table, i);
-        let marked = both(marks[i], admits(table, others, attributes, i));
+        let handed = marks[i] & admits(table, given, i) & (0 < i);
         marks[i] = false;
-        marks[p] = either(marks[p], both(marked, below(0, i)));
-        i += 1;
+        marks[p] = marks[p] | handed;
     }
 }
 
-// The rows inside a marked one, attributes only where asked for, and the rows themselves where own: before the furthest end of a marked row
-// behind.
-fn mark_inside(table: &[u32], own: bool, attributes: bool, marks: &mut [bool])
+// The rows inside a marked one that are taken, and the marked rows themselves where own: before the furthest end of a marked row behind.
+fn mark_inside(table: &[u32], own: bool, taken: Asked, marks: &mut [bool])
     requires { Room table.now marks.old }
-    ensures { Hits table.now (λ x y. (own && eqb x y) || (inside table.now x y && admitted table.now true attributes y)) marks.old marks.new }
+    ensures { Hits table.now (λ x y. (own && eqb x y) || (inside table.now x y && admitted table.now taken y)) marks.old marks.new }
 {
-    let n = row_count(table);
     let mut far = 0;
-    let mut i = 0;
-    while i < n {
+    for i in 0..row_count(table) {
         let marked = marks[i];
-        let reached = both(below(i, far), admits(table, true, attributes, i));
-        marks[i] = either(both(own, marked), reached);
-        far = larger_if(far, marked, end_at(table, i) + 1);
-        i += 1;
+        let past = end_at(table, i) + 1;
+        let reached = (i < far) & admits(table, taken, i);
+        marks[i] = (own & marked) | reached;
+        if marked {
+            far = far.max(past);
+        }
     }
 }
 
-// The rows around a marked one, around an attribute only where asked for, and the rows themselves where own: the nearest such row after them
-// is not past their end.
-fn mark_around(table: &[u32], own: bool, attributes: bool, marks: &mut [bool])
+// The rows around a marked one that gives, and the marked rows themselves where own: the nearest such row after them is not past their end.
+fn mark_around(table: &[u32], own: bool, given: Asked, marks: &mut [bool])
     requires { Room table.now marks.old }
-    ensures { Hits table.now (λ x y. (own && eqb x y) || (admitted table.now true attributes x && inside table.now y x)) marks.old marks.new }
+    ensures { Hits table.now (λ x y. (own && eqb x y) || (admitted table.now given x && inside table.now y x)) marks.old marks.new }
 {
     let mut near = BEYOND;
-    let mut i = row_count(table);
-    while 0 < i {
-        i -= 1;
+    for i in (0..row_count(table)).rev() {
         let marked = marks[i];
-        marks[i] = either(both(own, marked), below(near, end_at(table, i) + 1));
-        let counted = both(marked, admits(table, true, attributes, i));
-        near = smaller_if(near, counted, i);
+        let reached = near < end_at(table, i) + 1;
+        let counted = marked & admits(table, given, i);
+        if counted {
+            near = near.min(i);
+        }
+        marks[i] = (own & marked) | reached;
     }
 }
 
-// The least end of a marked row's subtree, of an attribute's only where asked for.
-fn least_end(table: &[u32], attributes: bool, from: &[bool]) -> usize
-    requires { (rows table.now ≤ most_rows) × (rows table.now ≤ length from.now) }
-    ensures { (y : ℕ) → y ≤ beyond → ltb result y ≡ some (λ x. get_or from.now x false && (admitted table.now true attributes x && ltb (end table.now x) y)) (up_to (rows table.now)) }
+// The rows that are taken after a marked one that gives, and not inside it: past the least end of such a row behind.
+fn mark_after(table: &[u32], given: Asked, taken: Asked, marks: &mut [bool])
+    requires { Room table.now marks.old }
+    ensures { Hits table.now (λ x y. (admitted table.now given x && after table.now x y) && admitted table.now taken y) marks.old marks.new }
 {
-    let n = row_count(table);
     let mut low = BEYOND;
-    let mut i = 0;
-    while i < n {
-        let counted = both(from[i], admits(table, true, attributes, i));
-        low = smaller_if(low, counted, end_at(table, i));
-        i += 1;
+    for i in 0..row_count(table) {
+        let counted = marks[i] & admits(table, given, i);
+        let end = end_at(table, i);
+        marks[i] = (low < i) & admits(table, taken, i);
+        if counted {
+            low = low.min(end);
+        }
     }
-    low
 }
 
-// The last marked row, an attribute only where asked for.
-fn last_marked(table: &[u32], attributes: bool, from: &[bool]) -> usize
-    requires { (rows table.now ≤ most_rows) × (rows table.now ≤ length from.now) }
-    ensures { (y : ℕ) → y ≤ beyond → ltb y result ≡ some (λ x. get_or from.now x false && (admitted table.now true attributes x && ltb y x)) (up_to (rows table.now)) }
+// The rows that are taken before a marked one that gives, and not around it: they end before the last such row.
+fn mark_before(table: &[u32], given: Asked, taken: Asked, marks: &mut [bool])
+    requires { Room table.now marks.old }
+    ensures { Hits table.now (λ x y. (admitted table.now given x && after table.now y x) && admitted table.now taken y) marks.old marks.new }
 {
-    let n = row_count(table);
     let mut high = 0;
-    let mut i = 0;
-    while i < n {
-        let counted = both(from[i], admits(table, true, attributes, i));
-        high = larger_if(high, counted, i);
-        i += 1;
+    for i in (0..row_count(table)).rev() {
+        let counted = marks[i] & admits(table, given, i);
+        let reached = (end_at(table, i) < high) & admits(table, taken, i);
+        if counted {
+            high = high.max(i);
+        }
+        marks[i] = reached;
     }
-    high
 }
 
-// The rows after a marked one and not inside it: after attributes only where given, and attributes only where taken.
-fn mark_after(table: &[u32], given: bool, taken: bool, marks: &mut [bool])
-    requires { Room table.now marks.old }
-    ensures { Hits table.now (λ x y. (admitted table.now true given x && after table.now x y) && admitted table.now true taken y) marks.old marks.new }
+// Passes a row among its siblings: it is marked if one of them that was passed was, and flags their parent if it was itself. Row 0 has no
+// siblings, and no attribute has.
+fn pass_sibling(table: &[u32], i: usize, seen: &mut [bool], marks: &mut [bool])
+    requires { (i < rows table.now) × (i < length marks.old) × (parent_of table.now i < length seen.old) }
+    ensures marked { marks.new ≡ slice_set marks.old i (get_or seen.old (parent_of table.now i) false && (ltb 0 i && admitted table.now Plain i)) }
+    ensures flagged { seen.new ≡ slice_set seen.old (parent_of table.now i) (get_or seen.old (parent_of table.now i) false || (get_or marks.old i false && (ltb 0 i && admitted table.now Plain i))) }
 {
-    let n = row_count(table);
-    let low = least_end(table, given, marks);
-    let mut i = 0;
-    while i < n {
-        marks[i] = both(below(low, i), admits(table, true, taken, i));
-        i += 1;
-    }
+    let p = parent_at(table, i);
+    let sibling = (0 < i) & admits(table, Asked::Plain, i);
+    let passed = seen[p];
+    seen[p] = passed | (marks[i] & sibling);
+    marks[i] = passed & sibling;
 }
 
-// The rows before a marked one and not around it, the same way.
-fn mark_before(table: &[u32], given: bool, taken: bool, marks: &mut [bool])
-    requires { Room table.now marks.old }
-    ensures { Hits table.now (λ x y. (admitted table.now true given x && after table.now y x) && admitted table.now true taken y) marks.old marks.new }
-{
-    let n = row_count(table);
-    let high = last_marked(table, given, marks);
-    let mut i = 0;
-    while i < n {
-        let passed = below(end_at(table, i), high);
-        marks[i] = both(passed, admits(table, true, taken, i));
-        i += 1;
-    }
-}
-
-// A row is marked if a marked sibling was passed: seen has a flag for each parent. Row 0 has no siblings, and no attribute has.
+// A row is marked if a marked sibling was passed: seen has a flag for each parent.
 fn mark_later_siblings(table: &[u32], marks: &mut [bool])
     requires { Room table.now marks.old }
     ensures { Hits table.now (on table.now FollowingSibling) marks.old marks.new }
 {
-    let n = row_count(table);
     let mut seen = [false; MOST_ROWS];
-    let mut i = 0;
-    while i < n {
-        let p = parent_at(table, i);
-        let passed = seen[p];
-        let plain = admits(table, true, false, i);
-        let marked = both(marks[i], plain);
-        marks[i] = both(passed, plain);
-        seen[p] = either(passed, both(marked, below(0, i)));
-        i += 1;
+    for i in 0..row_count(table) {
+        pass_sibling(table, i, &mut seen, marks);
     }
 }
 
@@ -195,59 +159,51 @@ fn mark_earlier_siblings(table: &[u32], marks: &mut [bool])
     ensures { Hits table.now (on table.now PrecedingSibling) marks.old marks.new }
 {
     let mut seen = [false; MOST_ROWS];
-    let mut i = row_count(table);
-    while 0 < i {
-        i -= 1;
-        let p = parent_at(table, i);
-        let passed = seen[p];
-        let plain = admits(table, true, false, i);
-        let marked = both(marks[i], plain);
-        let child = below(0, i);
-        marks[i] = both(both(child, passed), plain);
-        seen[p] = either(passed, both(marked, child));
+    for i in (0..row_count(table)).rev() {
+        pass_sibling(table, i, &mut seen, marks);
     }
 }
 
-// Marks the rows that are on the axis with this number of some row that was marked, and no others. A number above 11 reads as
-// axis 0, self, on which every set stays as it is.
-pub fn reach(table: &[u32], axis: usize, marks: &mut [bool])
+// Marks the rows that are on the axis of some row that was marked, and no others. On self every set stays as it is.
+#[tactic(auto, unfolding(meaning::specs::Axis::on, crate::specs::Reach::admitted, crate::specs::Reach::Hits, crate::specs::Reach::hit))]
+pub fn reach(table: &[u32], axis: Axis, marks: &mut [bool])
     requires { Room table.now marks.old }
-    ensures { Hits table.now (on table.now (axis_of axis)) marks.old marks.new }
+    ensures { Hits table.now (on table.now axis) marks.old marks.new }
 {
     match axis {
-        1 => mark_under(table, true, false, marks),
-        2 => mark_over(table, true, true, marks),
-        3 => mark_inside(table, false, false, marks),
-        4 => mark_around(table, false, true, marks),
-        5 => mark_inside(table, true, false, marks),
-        6 => mark_around(table, true, true, marks),
-        7 => mark_after(table, true, false, marks),
-        8 => mark_before(table, true, false, marks),
-        9 => mark_later_siblings(table, marks),
-        10 => mark_earlier_siblings(table, marks),
-        11 => mark_under(table, false, true, marks),
-        _ => {}
+        Axis::Itself => {}
+        Axis::Child => mark_under(table, Asked::Plain, marks),
+        Axis::Parent => mark_over(table, Asked::All, marks),
+        Axis::Descendant => mark_inside(table, false, Asked::Plain, marks),
+        Axis::Ancestor => mark_around(table, false, Asked::All, marks),
+        Axis::DescendantOrSelf => mark_inside(table, true, Asked::Plain, marks),
+        Axis::AncestorOrSelf => mark_around(table, true, Asked::All, marks),
+        Axis::Following => mark_after(table, Asked::All, Asked::Plain, marks),
+        Axis::Preceding => mark_before(table, Asked::All, Asked::Plain, marks),
+        Axis::FollowingSibling => mark_later_siblings(table, marks),
+        Axis::PrecedingSibling => mark_earlier_siblings(table, marks),
+        Axis::Attribute => mark_under(table, Asked::Attributes, marks),
     }
 }
 
-// Marks the rows that have on the axis with this number some row that was marked, and no others. An attribute is left out where the axis
-// leaves it out: of the rows that were marked.
-pub fn reach_back(table: &[u32], axis: usize, marks: &mut [bool])
+// Marks the rows that have on this axis some row that was marked, and no others. An attribute is left out where the axis leaves it out:
+// of the rows that were marked.
+pub fn reach_back(table: &[u32], axis: Axis, marks: &mut [bool])
     requires { Room table.now marks.old }
-    ensures { Hits table.now (λ y x. on table.now (axis_of axis) x y) marks.old marks.new }
+    ensures { Hits table.now (λ y x. on table.now axis x y) marks.old marks.new }
 {
     match axis {
-        1 => mark_over(table, true, false, marks),
-        2 => mark_under(table, true, true, marks),
-        3 => mark_around(table, false, false, marks),
-        4 => mark_inside(table, false, true, marks),
-        5 => mark_around(table, true, false, marks),
-        6 => mark_inside(table, true, true, marks),
-        7 => mark_before(table, false, true, marks),
-        8 => mark_after(table, false, true, marks),
-        9 => mark_earlier_siblings(table, marks),
-        10 => mark_later_siblings(table, marks),
-        11 => mark_over(table, false, true, marks),
-        _ => {}
+        Axis::Itself => {}
+        Axis::Child => mark_over(table, Asked::Plain, marks),
+        Axis::Parent => mark_under(table, Asked::All, marks),
+        Axis::Descendant => mark_around(table, false, Asked::Plain, marks),
+        Axis::Ancestor => mark_inside(table, false, Asked::All, marks),
+        Axis::DescendantOrSelf => mark_around(table, true, Asked::Plain, marks),
+        Axis::AncestorOrSelf => mark_inside(table, true, Asked::All, marks),
+        Axis::Following => mark_before(table, Asked::Plain, Asked::All, marks),
+        Axis::Preceding => mark_after(table, Asked::Plain, Asked::All, marks),
+        Axis::FollowingSibling => mark_earlier_siblings(table, marks),
+        Axis::PrecedingSibling => mark_later_siblings(table, marks),
+        Axis::Attribute => mark_over(table, Asked::Attributes, marks),
     }
 }

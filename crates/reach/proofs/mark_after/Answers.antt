@@ -1,24 +1,29 @@
--- The answers of `reach::mark_after`: what its code leaves to show, by the invariants beside this file. Assumes nothing.
-use mathlib.Core.Path.{refl, sym, ◌∙◌}
-use lib.ListN.{length-set}
-use native.Mathlib.Omega.{arith}
-use Rattle.meaning.specs.Axis.{after}
-use Rattle.meaning.proofs.Windows.{after_is}
-use Rattle.meaning.proofs.Marks.{wrote_start, wrote_more}
-use Rattle.reach.proofs.Sweep.{bound_hit, up_hits}
+-- The answers of `reach::mark_after`: what its code leaves to show, by the invariant beside this file. Assumes nothing.
+use Rattle.std.proofs.Common.{◌<◌, arith}
+use borrow.Author.Tests.{le-ltb}
+use Rattle.meaning.specs.Table.{rows}
+use Rattle.meaning.proofs.Marks.{wrote_start, wrote_more, wrote_ahead}
+use Rattle.reach.specs.Reach.{admitted, beyond}
+use Rattle.reach.proofs.Sweep.{gathered_start, gathered_more, above_min, taken, left, gives, after_hit, up_hits}
 use Rattle.reach.proofs.mark_after.Goals as goal
+use Rattle.reach.proofs.mark_after.Goals.{then-counted, else-counted}
 
 pub loop-i-init : goal.loop-i-init
-loop-i-init c = (omega arith, c.row_count-n.ensures, refl, wrote_start _ _)
+loop-i-init c = (gathered_start _ _ _ _ (λ y l. le-ltb beyond y (omega arith)), wrote_start _ _)
 
 pub loop-i-preserved : goal.loop-i-preserved
 loop-i-preserved c =
-    let inv = c.loop-i.invariant in (
-      omega arith,
-      inv.1,
-      simp length-set inv.2,
-      wrote_more _ _ _ _ _ inv.3 (omega arith) (c.both.ensures ∙ rw (c.admits.ensures, c.below.ensures) (bound_hit _ _ _ _ _ _ (after _) _ (λ x. sym (after_is _ x _)) (c.least_end-low.ensures _ (omega arith)))),
+    let inv = c.loop-i.invariant in
+    let t = c.args.table.now in
+    let old = wrote_ahead _ _ _ _ c.loop-i.i inv.1 (omega arith) in
+    let low : c.loop-i.i < rows t = omega arith in
+    let own = gives c.args.marks.now (admitted t c.args.given) c.loop-i.i _ _ old c.admits.ensures in (
+      gathered_more _ _ _ _ _ _ inv.0 (λ y l. rw (← own, ← c.end_at-end.ensures.0) (elim c.if-counted.branch [
+        | then-counted w ↦ taken _ _ _ _ w.if-counted.true (rw (w.low-is, w.min-low.ensures) (above_min y c.loop-i.low _))
+        | else-counted w ↦ left _ _ _ _ w.if-counted.false (rw w.low-is)
+      ])),
+      wrote_more _ _ _ _ _ inv.1 (omega arith) (rw c.admits-in-loop-i.ensures (after_hit _ _ _ low c.args.given c.args.taken _ inv.0 (omega arith))),
     )
 
 pub returns : goal.returns
-returns c = up_hits _ _ _ _ _ c.loop-i.invariant.3 (omega arith)
+returns c = up_hits _ _ _ _ _ c.loop-i.invariant.1 (omega (arith, c.row_count-i-end.ensures))

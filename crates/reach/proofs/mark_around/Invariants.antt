@@ -1,11 +1,7 @@
 -- `reach::mark_around` meets its contract: a number is above near exactly if a row passed that gives is below it; the rows passed are marked
--- exactly if they are reached, and the others as they were. The measure is what is left of the rows.
+-- exactly if they are reached, and the others as they were.
 -- Assumes nothing.
-use Prim.Native.Nat.{◌+◌, ◌-◌, ◌≤◌}
-use mathlib.Core.Path.{◌≡◌}
-use mathlib.Core.Bool.{true, ◌&&◌, ◌||◌}
-use lib.Dec.{ltb, eqb}
-use lib.ListN.{length}
+use Rattle.std.proofs.Common.{◌+◌, ◌-◌, ◌&&◌, ◌||◌, ltb, eqb}
 use Rattle.meaning.specs.Table.{rows}
 use Rattle.meaning.specs.Axis.{inside}
 use Rattle.meaning.proofs.Windows.{up_from}
@@ -16,10 +12,5 @@ use Rattle.reach.proofs.mark_around.Given as goal
 
 abbrev pub invariant-loop-i : goal.invariant-loop-i
 invariant-loop-i l =
-    (l.i ≤ rows l.table)
-    × (length l.marks ≡ length l.initial.marks)
-    × Gathered (beyond + 1) ltb (giving l.initial.marks (admitted l.table true l.attributes)) (up_from l.i (rows l.table - l.i)) (λ z. ltb l.near z)
-    × WroteDown (hit l.table (λ x y. (l.own && eqb x y) || (admitted l.table true l.attributes x && inside l.table y x)) l.initial.marks) (rows l.table) l.initial.marks l.marks l.i
-
-abbrev pub decreases-loop-i : goal.decreases-loop-i
-decreases-loop-i l = l.i
+    Gathered (beyond + 1) ltb (giving l.initial.marks (admitted l.table l.given)) (up_from l.i (rows l.table - l.i)) (λ z. ltb l.near z)
+    × WroteDown (hit l.table (λ x y. (l.own && eqb x y) || (admitted l.table l.given x && inside l.table y x)) l.initial.marks) (rows l.table) l.initial.marks l.marks l.i

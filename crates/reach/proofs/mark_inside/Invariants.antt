@@ -1,13 +1,9 @@
 -- `reach::mark_inside` meets its contract: a number is below far exactly if it is not past the end of a marked row passed; the rows passed
--- are marked exactly if they are reached, and the others as they were. The measure is what is left of the rows.
+-- are marked exactly if they are reached, and the others as they were.
 -- Assumes nothing.
-use Prim.Native.Nat.{◌+◌, ◌-◌, ◌≤◌}
-use mathlib.Core.Path.{◌≡◌}
-use mathlib.Core.Bool.{true, ◌&&◌, ◌||◌}
-use lib.Dec.{ltb, eqb}
-use lib.ListN.{length}
+use Rattle.std.proofs.Common.{◌+◌, ◌&&◌, ◌||◌, ltb, eqb}
 use Rattle.meaning.specs.Lists.{up_to}
-use Rattle.meaning.specs.Table.{rows, end}
+use Rattle.meaning.specs.Table.{end}
 use Rattle.meaning.specs.Axis.{inside}
 use Rattle.meaning.proofs.Marks.{Wrote}
 use Rattle.reach.specs.Reach.{hit, admitted, beyond}
@@ -16,11 +12,5 @@ use Rattle.reach.proofs.mark_inside.Given as goal
 
 abbrev pub invariant-loop-i : goal.invariant-loop-i
 invariant-loop-i l =
-    (l.i ≤ l.n)
-    × (l.n ≡ rows l.table)
-    × (length l.marks ≡ length l.initial.marks)
-    × Gathered (beyond + 1) (λ x z. ltb z (end l.table x + 1)) (marked l.initial.marks) (up_to l.i) (λ z. ltb z l.far)
-    × Wrote (hit l.table (λ x y. (l.own && eqb x y) || (inside l.table x y && admitted l.table true l.attributes y)) l.initial.marks) l.initial.marks l.marks l.i
-
-abbrev pub decreases-loop-i : goal.decreases-loop-i
-decreases-loop-i l = l.n - l.i
+    Gathered (beyond + 1) (λ x z. ltb z (end l.table x + 1)) (marked l.initial.marks) (up_to l.i) (λ z. ltb z l.far)
+    × Wrote (hit l.table (λ x y. (l.own && eqb x y) || (inside l.table x y && admitted l.table l.taken y)) l.initial.marks) l.initial.marks l.marks l.i

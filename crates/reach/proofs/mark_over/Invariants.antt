@@ -1,9 +1,6 @@
 -- `reach::mark_over` meets its contract: of the rows passed those are marked that are the parent of a row passed that gives, and the others
--- are as they were; a parent is among the rows passed when its child hands it its mark. The measure is what is left of the rows.
+-- are as they were; a parent is among the rows passed when its child hands it its mark.
 -- Assumes nothing.
-use Prim.Native.Nat.{◌-◌, ◌≤◌}
-use mathlib.Core.Path.{◌≡◌}
-use lib.ListN.{length}
 use Rattle.meaning.specs.Lists.{up_to}
 use Rattle.meaning.specs.Table.{rows}
 use Rattle.reach.specs.Reach.{admitted}
@@ -12,11 +9,5 @@ use Rattle.reach.proofs.mark_over.Given as goal
 
 abbrev pub invariant-loop-i : goal.invariant-loop-i
 invariant-loop-i l =
-    (l.i ≤ l.n)
-    × (l.n ≡ rows l.table)
-    × (length l.marks ≡ length l.initial.marks)
-    × Gathered (rows l.table) (over l.table) (giving l.initial.marks (admitted l.table l.others l.attributes)) (up_to l.i) (handed l.i l.marks)
+    Gathered (rows l.table) (over l.table) (giving l.initial.marks (admitted l.table l.given)) (up_to l.i) (handed l.i l.marks)
     × Ahead l.initial.marks l.marks l.i
-
-abbrev pub decreases-loop-i : goal.decreases-loop-i
-decreases-loop-i l = l.n - l.i
