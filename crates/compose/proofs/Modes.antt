@@ -79,11 +79,11 @@ unfolding numbers has number
 signs_below m h = same_bit (ltb m 2) (has signing (mode_of m))
     (at (λ k x. eqb (bit (ltb k 2)) (bit (has signing (mode_of k)))) numbers tt m h)
 
-pub ends_at : (m : ℕ) → m < 14 → (eqb m 3 || (eqb m 12 || eqb m 13)) ≡ has ending (mode_of m)
+pub ends_at : (m : ℕ) → m < 14 → (eqb m 3 || leb 12 m) ≡ has ending (mode_of m)
 unfolding numbers has number
 ends_at m h =
-    same_bit (eqb m 3 || (eqb m 12 || eqb m 13)) (has ending (mode_of m))
-    (at (λ k x. eqb (bit (eqb k 3 || (eqb k 12 || eqb k 13))) (bit (has ending (mode_of k)))) numbers tt m h)
+    same_bit (eqb m 3 || leb 12 m) (has ending (mode_of m))
+    (at (λ k x. eqb (bit (eqb k 3 || leb 12 k)) (bit (has ending (mode_of k)))) numbers tt m h)
 
 -- the mode behind a token
 pub mode_next :

@@ -6,6 +6,8 @@ use mathlib.Core.Path.{◌≡◌, refl, sym, ◌∙◌, ap}
 use mathlib.Core.Bool.{Bool, true, false, cond}
 use mathlib.Core.List.{List, [], ◌∷◌}
 use lib.ListN.{length, get_or}
+use Rattle.std.specs.Prelude.{Some, None}
+use Rattle.std.specs.Option.{unwrap_or}
 use borrow.Author.Tests.{ne_eqb}
 use Rattle.names.specs.Names.{same, position, is_named, number_of, names_of, bad_names}
 use Rattle.names.proofs.Accepted.{number_at_most}
@@ -47,6 +49,10 @@ name_most names w f = by (is_named names w) refl
     by : (t : Bool) → is_named names w ≡ t → cond t (number_of names w) 0 ≤ 65535
     by true e = number_at_most names f w e
     by false e = omega arith
+
+pub number_or_none : (b : Bool) (n : ℕ) → unwrap_or (cond b (Some n) None) 0 ≡ cond b n 0
+number_or_none true n = refl
+number_or_none false n = refl
 
 -- ---- the number of a token
 

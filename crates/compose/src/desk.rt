@@ -7,7 +7,6 @@ ghost use Rattle.compose.specs.Standing.{frames_of, row_room, op_room, open_room
 
 use crate::pen::{fill_row, made_predicate, made_truth, write_row};
 use crate::{Bench, Hand};
-use basics::{at_most, both, either};
 use text::Sort;
 
 fn store_frame(ops: &mut [u32], at: usize, op: u32, a: u32, c: u32, d: u32)
@@ -63,11 +62,11 @@ const STRENGTHS: [usize; 26] = [
     0, 0, 0, 0, 5, 5, 6, 6, 6, 7, 3, 3, 4, 4, 4, 4, 2, 1, 0, 0, 0, 0, 9, 9, 11, 0,
 ];
 
+#[tactic(auto, unfolding(text::specs::Composing::strength_of))]
 pub fn strength(op: u32) -> usize
     ensures { result ≡ strength_of op }
 {
-    let i = op as usize;
-    if i < 26 { STRENGTHS[i] } else { 0 }
+    STRENGTHS.get(op as usize).copied().unwrap_or(0)
 }
 
 // Does the top frame bind at least as strongly as k, with no bracket open behind it?
@@ -79,7 +78,7 @@ fn may_fill(k: usize, ops: &[u32], opens: &[usize], height: usize) -> bool
         return false;
     }
     let top = height - 1;
-    both(at_most(k, strength(ops[4 * top])), opens[2 * top] == 0)
+    k <= strength(ops[4 * top]) && opens[2 * top] == 0
 }
 
 // The top frame is filled.
@@ -231,13 +230,11 @@ pub fn paths_in(ops: &[u32], height: usize) -> usize
     ensures { ((opens : List ℕ) → result ≡ paths_in (frames_of ops.now opens height)) × (result ≤ height) }
 {
     let mut count = 0;
-    let mut i = 0;
-    while i < height {
+    for i in 0..height {
         let op = ops[4 * i];
-        if either(op == 22, op == 23) {
+        if op == 22 || op == 23 {
             count += 1;
         }
-        i += 1;
     }
     count
 }

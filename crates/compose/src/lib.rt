@@ -13,12 +13,12 @@ mod steps;
 mod words;
 
 ghost use Rattle.std.specs.Prelude.{◌≡◌, length};
-ghost use Rattle.names.specs.Index.{Indexed};
 ghost use Rattle.compose.specs.Standing.{row_room, value_room};
 ghost use Rattle.compose.specs.Words.{Plain};
 ghost use Rattle.compose.specs.Composes.{Composes};
 
 use desk::settle_frames;
+use names::Names;
 use pass::pass_over;
 use text::Sort;
 
@@ -69,24 +69,14 @@ const OPENS: usize = 520;
 
 // Composes a text whose names are in the list and whose numbers have few digits. The slices have room for what one token may add where a path
 // is full already.
-pub fn compose(
-    text: &[u8],
-    list: &[u8],
-    heads: &[u16],
-    nexts: &[u16],
-    starts: &[usize],
-    rows: &mut [u32],
-    values: &mut [f64],
-) -> Composed
-    requires { Indexed list.now heads.now nexts.now starts.now × Plain text.now list.now × (length rows.old ≡ row_room)
+pub fn compose(text: &[u8], names: &Names, rows: &mut [u32], values: &mut [f64]) -> Composed
+    requires { Plain text.now names.now.list.now × (length rows.old ≡ row_room)
         × (length values.old ≡ value_room) }
-    ensures { Composes text.now list.now rows.new values.new result }
+    ensures { Composes text.now names.now.list.now rows.new values.new result }
 {
     let mut ops = [0u32; OPS];
     let mut opens = [0usize; OPENS];
-    let passed = pass_over(
-        text, list, heads, nexts, starts, rows, &mut ops, &mut opens, values,
-    );
+    let passed = pass_over(text, names, rows, &mut ops, &mut opens, values);
     if passed.full {
         return Composed {
             rows: 257,
@@ -95,15 +85,10 @@ pub fn compose(
         };
     }
     let state = passed.state;
-    let bench = state.bench;
-    let settled = settle_frames(bench, rows, &ops, &opens, 1);
-    let hand = settled.hand;
-    let count = hand.rows;
-    let literals = state.literals;
-    let depth = state.deepest;
+    let settled = settle_frames(state.bench, rows, &ops, &opens, 1);
     Composed {
-        rows: count,
-        literals,
-        depth,
+        rows: settled.hand.rows,
+        literals: state.literals,
+        depth: state.deepest,
     }
 }

@@ -5,7 +5,6 @@ ghost use Rattle.text.specs.Machine.{has, beginning, signing, ending};
 ghost use Rattle.text.specs.Survey.{mode_after};
 ghost use Rattle.compose.specs.Standing.{mode_of};
 
-use basics::either;
 use modes::act_at;
 
 // The mode behind a token of this class.
@@ -50,5 +49,5 @@ pub fn is_ending(mode: usize) -> bool
     requires { mode < 14 }
     ensures { result ≡ has ending (mode_of mode) }
 {
-    either(mode == 3, either(mode == 12, mode == 13))
+    mode == 3 || 12 <= mode
 }

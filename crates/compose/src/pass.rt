@@ -1,6 +1,5 @@
 // The pass over the tokens of a text.
 ghost use Rattle.std.specs.Prelude.{◌≡◌, ℕ, ◌+◌, ◌<◌, length, replicate, ltb};
-ghost use Rattle.names.specs.Index.{Indexed};
 ghost use Rattle.text.specs.Tokens.{class_of};
 ghost use Rattle.text.specs.Limited.{source, place};
 ghost use Rattle.text.specs.Composing.{compose_token};
@@ -12,25 +11,28 @@ ghost use Rattle.compose.specs.Passes.{Passes, nothing_read};
 use crate::read::read_token;
 use crate::words::{number_value, word_number};
 use crate::{Bench, Hand, Passed, State};
+use names::Names;
 use text::Sort;
 use tokens::{Next, is_due, next_token};
 
 // Nothing was read: the frame at the bottom stands for the whole text.
+#[tactic(auto, unfolding(crate::specs::Passes::nothing_read))]
 fn start() -> State
     ensures { result ≡ nothing_read }
 {
-    let hand = Hand {
-        link: 0,
-        sort: Sort::Unheld,
-        rows: 0,
-    };
-    let bench = Bench { hand, height: 1 };
     State {
         mode: 0,
         axis: 1,
         literals: 0,
         deepest: 0,
-        bench,
+        bench: Bench {
+            hand: Hand {
+                link: 0,
+                sort: Sort::Unheld,
+                rows: 0,
+            },
+            height: 1,
+        },
     }
 }
 
@@ -39,18 +41,13 @@ fn is_full(state: State) -> bool
     requires { (state.bench.hand.rows < 1000) × (state.bench.height < 1000) }
     ensures { result ≡ ltb 257 (state.bench.hand.rows + state.bench.height) }
 {
-    let bench = state.bench;
-    let hand = bench.hand;
-    257 < hand.rows + bench.height
+    257 < state.bench.hand.rows + state.bench.height
 }
 
 // The state behind the next token.
 fn read_next(
     text: &[u8],
-    list: &[u8],
-    heads: &[u16],
-    nexts: &[u16],
-    starts: &[usize],
+    names: &Names,
     next: Next,
     state: State,
     rows: &mut [u32],
@@ -58,42 +55,37 @@ fn read_next(
     opens: &mut [usize],
     values: &mut [f64],
 ) -> State
-    requires { Indexed list.now heads.now nexts.now starts.now × Spelled text.now list.now next.kind next.begin next.end
+    requires { Spelled text.now names.now.list.now next.kind next.begin next.end
         × (next.kind < 33) × (state.mode < 14) × Roomy 514 state.bench rows.old ops.old opens.old × (state.literals < value_room)
         × (length values.old ≡ value_room) × Countable state.bench.height opens.old }
-    ensures { (result.mode < 14) × ((i : ℕ) → place (source text.now list.now) i ≡ next.begin
+    ensures { (result.mode < 14) × ((i : ℕ) → place (source text.now names.now.list.now) i ≡ next.begin
         → Read state rows.old ops.old opens.old values.old
-        (λ w. compose_token (source text.now list.now) w i (class_of next.kind)) result
+        (λ w. compose_token (source text.now names.now.list.now) w i (class_of next.kind)) result
         rows.new ops.new opens.new values.new 4) }
 {
     let kind = next.kind;
-    let number = word_number(list, heads, nexts, starts, text, kind, next.begin, next.end);
-    let value = number_value(text, list, kind, next.begin, next.end);
+    let number = word_number(text, names, kind, next.begin, next.end);
+    let value = number_value(text, names, kind, next.begin, next.end);
     read_token(kind, number, value, state, rows, ops, opens, values)
 }
 
 // All tokens, up to the first behind which too many rows are committed.
 pub fn pass_over(
     text: &[u8],
-    list: &[u8],
-    heads: &[u16],
-    nexts: &[u16],
-    starts: &[usize],
+    names: &Names,
     rows: &mut [u32],
     ops: &mut [u32],
     opens: &mut [usize],
     values: &mut [f64],
 ) -> Passed
-    requires { Indexed list.now heads.now nexts.now starts.now × Plain text.now list.now × (length rows.old ≡ row_room)
+    requires { Plain text.now names.now.list.now × (length rows.old ≡ row_room)
         × (ops.old ≡ replicate op_room 0) × (opens.old ≡ replicate open_room 0) × (length values.old ≡ value_room) }
-    ensures { Passes text.now list.now result rows.new ops.new opens.new values.new }
+    ensures { Passes text.now names.now.list.now result rows.new ops.new opens.new values.new }
 {
     let mut state = start();
     let mut next = next_token(text, 0, false);
     while next.kind < 33 {
-        state = read_next(
-            text, list, heads, nexts, starts, next, state, rows, ops, opens, values,
-        );
+        state = read_next(text, names, next, state, rows, ops, opens, values);
         if is_full(state) {
             return Passed { full: true, state };
         }

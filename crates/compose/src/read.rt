@@ -10,17 +10,13 @@ use crate::State;
 use crate::deal::desk_token;
 use crate::mode::next_mode;
 use crate::steps::{moved_to, number_token, slash_token, step_token};
-use basics::either;
 
 // Does a token of this class change the desk alone?
+#[tactic(auto, unfolding(crate::specs::Deals::of_desk))]
 fn is_desk(kind: usize) -> bool
     ensures { result ≡ of_desk kind }
 {
-    let names = either(
-        kind == 12,
-        either(kind == 14, either(kind == 16, 19 <= kind)),
-    );
-    either(kind <= 3, either(kind == 7, either(kind == 8, names)))
+    matches!(kind, 0..=3 | 7 | 8 | 12 | 14 | 16 | 19..)
 }
 
 // The state behind a token of this class.

@@ -15,32 +15,19 @@ use crate::{Bench, State};
 use literals::index_of;
 use text::Sort;
 
-fn larger(a: usize, b: usize) -> usize
-    ensures { result ≡ max a b }
-{
-    if a < b { b } else { a }
-}
-
 // A path begins with this op where an operand is due; behind a step it goes on.
 fn path_from(state: State, ops: &mut [u32], opens: &mut [usize], op: u32) -> State
     requires { (state.mode < 14) × (state.bench.height < 260) × (length ops.old ≡ op_room) × (length opens.old ≡ open_room) }
     ensures { (result.mode ≡ state.mode) × ((rows : List ℕ) (values : List Float) → Read state rows ops.old opens.old values
         (path_from op) result rows ops.new opens.new values 2) }
 {
-    let mode = state.mode;
-    if is_beginning(mode) {
-        let bench = state.bench;
-        let paths = paths_in(ops, bench.height) + 1;
-        let deepest = larger(state.deepest, paths);
-        let begun = push_frame(bench, ops, opens, op, 0, 0);
-        let axis = state.axis;
-        let literals = state.literals;
+    if is_beginning(state.mode) {
+        let paths = paths_in(ops, state.bench.height) + 1;
+        let bench = push_frame(state.bench, ops, opens, op, 0, 0);
         return State {
-            mode,
-            axis,
-            literals,
-            deepest,
-            bench: begun,
+            deepest: state.deepest.max(paths),
+            bench,
+            ..state
         };
     }
     state
@@ -50,15 +37,10 @@ fn path_from(state: State, ops: &mut [u32], opens: &mut [usize], op: u32) -> Sta
 pub fn moved_to(state: State, mode: usize, bench: Bench) -> State
     ensures { result ≡ record { mode = mode; axis = state.axis; literals = state.literals; deepest = state.deepest; bench = bench } }
 {
-    let axis = state.axis;
-    let literals = state.literals;
-    let deepest = state.deepest;
     State {
         mode,
-        axis,
-        literals,
-        deepest,
         bench,
+        ..state
     }
 }
 
@@ -81,15 +63,10 @@ fn axis_token(state: State, mode: usize, axis: u32) -> State
     ensures { (result.mode ≡ mode) × ((rows ops opens : List ℕ) (values : List Float) → Read state rows ops opens values
         (axis_read (mode_of mode) axis) result rows ops opens values 0) }
 {
-    let literals = state.literals;
-    let deepest = state.deepest;
-    let bench = state.bench;
     State {
         mode,
         axis,
-        literals,
-        deepest,
-        bench,
+        ..state
     }
 }
 
@@ -99,16 +76,12 @@ fn test_token(state: State, mode: usize, test: u32, ops: &mut [u32], opens: &mut
     ensures { (result.mode ≡ mode) × ((rows : List ℕ) (values : List Float) → Read state rows ops.old opens.old values
         (test_read (mode_of mode) test) result rows ops.new opens.new values 2) }
 {
-    let bench = state.bench;
-    let pushed = push_frame(bench, ops, opens, 24, state.axis, test);
-    let literals = state.literals;
-    let deepest = state.deepest;
+    let bench = push_frame(state.bench, ops, opens, 24, state.axis, test);
     State {
         mode,
         axis: 1,
-        literals,
-        deepest,
-        bench: pushed,
+        bench,
+        ..state
     }
 }
 
@@ -209,13 +182,10 @@ pub fn number_token(
     let done = write_row(hand, rows, 1, index as u32, 0, 0, 0, Sort::Numeral);
     let height = bench.height;
     let next = Bench { hand: done, height };
-    let axis = state.axis;
-    let deepest = state.deepest;
     State {
         mode,
-        axis,
         literals,
-        deepest,
         bench: next,
+        ..state
     }
 }

@@ -1,55 +1,36 @@
 // The number that a token has by its words, and the value of a number.
 ghost use Rattle.std.specs.Prelude.{◌≡◌, true, false, cond, ℕ, ◌+◌, ◌≤◌, length};
 ghost use Rattle.names.specs.Names.{is_named, number_of, names_of};
-ghost use Rattle.names.specs.Index.{Indexed};
 ghost use Rattle.text.specs.Tokens.{between};
 ghost use Rattle.text.specs.Limited.{source, place, is_star, value_at};
 ghost use Rattle.compose.specs.Standing.{word_number};
 ghost use Rattle.compose.specs.Words.{Spelled};
 
-use names::number_of;
+use names::Names;
 use tokens::{axis_number, function_number, is_star, type_number};
 
 // A name's test: `*` is 1, the i-th name 16 + i.
-fn name_number(
-    list: &[u8],
-    heads: &[u16],
-    nexts: &[u16],
-    starts: &[usize],
-    text: &[u8],
-    begin: usize,
-    end: usize,
-) -> u32
-    requires { Indexed list.now heads.now nexts.now starts.now × (begin ≤ end) × (end ≤ length text.now)
-        × (is_star text.now begin ≡ false → is_named (names_of list.now) (between text.now begin end) ≡ true) }
-    ensures { result ≡ cond (is_star text.now begin) 1 (16 + number_of (names_of list.now) (between text.now begin end)) }
+fn name_number(text: &[u8], names: &Names, begin: usize, end: usize) -> u32
+    requires { (begin ≤ end) × (end ≤ length text.now)
+        × (is_star text.now begin ≡ false → is_named (names_of names.now.list.now) (between text.now begin end) ≡ true) }
+    ensures { result ≡ cond (is_star text.now begin) 1 (16 + number_of (names_of names.now.list.now) (between text.now begin end)) }
 {
     if is_star(text, begin) {
         return 1;
     }
-    let number = number_of(list, heads, nexts, starts, text, begin, end);
-    let test = 16 + number;
-    test as u32
+    let number = names.number_of(&text[begin..end]).unwrap_or(0);
+    (16 + number) as u32
 }
 
 // The number of a token by its class.
-pub fn word_number(
-    list: &[u8],
-    heads: &[u16],
-    nexts: &[u16],
-    starts: &[usize],
-    text: &[u8],
-    kind: usize,
-    begin: usize,
-    end: usize,
-) -> u32
-    requires { Indexed list.now heads.now nexts.now starts.now × Spelled text.now list.now kind begin end }
-    ensures { (i : ℕ) → place (source text.now list.now) i ≡ begin
-        → result ≡ word_number (source text.now list.now) i kind }
+pub fn word_number(text: &[u8], names: &Names, kind: usize, begin: usize, end: usize) -> u32
+    requires { Spelled text.now names.now.list.now kind begin end }
+    ensures { (i : ℕ) → place (source text.now names.now.list.now) i ≡ begin
+        → result ≡ word_number (source text.now names.now.list.now) i kind }
 {
     match kind {
         6 => 11,
-        9 => name_number(list, heads, nexts, starts, text, begin, end),
+        9 => name_number(text, names, begin, end),
         10 => type_number(text, begin, end) as u32,
         11 => 4,
         12 => function_number(text, begin, end) as u32,
@@ -59,8 +40,8 @@ pub fn word_number(
 }
 
 // The value of a number; 0 for any other token.
-pub fn number_value(text: &[u8], list: &[u8], kind: usize, begin: usize, end: usize) -> f64
-    requires { Spelled text.now list.now kind begin end }
+pub fn number_value(text: &[u8], names: &Names, kind: usize, begin: usize, end: usize) -> f64
+    requires { Spelled text.now names.now.list.now kind begin end }
     ensures { kind ≡ 15 → result ≡ value_at text.now begin }
 {
     if kind == 15 {

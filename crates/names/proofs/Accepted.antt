@@ -1,18 +1,17 @@
 -- Laws of a list of names that is not refused: its names differ, so that the i-th has number i; and no number is above 65,535.
 -- Assumes nothing.
-use Prim.Native.Nat.{ℕ, ◌+◌, ◌<◌, ◌≤◌}
+use Prim.Native.Nat.{ℕ, ◌<◌, ◌≤◌}
 use native.Mathlib.Omega.{arith}
-use mathlib.Core.Path.{◌≡◌, refl}
+use mathlib.Core.Path.{◌≡◌}
 use mathlib.Core.Logic.{⊎_elim}
-use mathlib.Core.Bool.{Bool, true, false, ◌||◌, not, cond}
+use mathlib.Core.Bool.{true, false, ◌||◌, not}
 use mathlib.Core.List.{List, []}
 use lib.ListN.{length, get_or}
 use lib.Dec.{ltb, leb}
 use borrow.Author.Tests.{ltb-true, ltb-false, leb-false, not-false}
-use Rattle.meaning.specs.Lists.{lowest}
 use Rattle.meaning.proofs.Bools.{lt_or_ge, or_none_l, or_none_r}
 use Rattle.meaning.proofs.Lists.{below_none}
-use Rattle.names.specs.Names.{most_names, good_name, position, bad_line, bad_names, bad_line_number, is_named, number_of}
+use Rattle.names.specs.Names.{most_names, good_name, position, bad_line, bad_names, is_named, number_of}
 use Rattle.names.proofs.Words.{same_itself}
 use Rattle.names.proofs.Places.{position_within}
 
@@ -33,15 +32,6 @@ module _ (names : List (List ℕ)) where
         new = ltb-false (position names w) i (or_none_r (not (good_name w)) (ltb (position names w) i) p);
         few = leb-false most_names i (or_none_r (not (good_name w) || ltb (position names w) i) (leb most_names i) h);
       }
-
-  -- lines count from 1, so 0 is the answer only where none is bad
-  pub not_refused : cond (bad_names names) (bad_line_number names) 0 ≡ 0 → bad_names names ≡ false
-  unfolding bad_line_number
-  not_refused e = by (bad_names names) e
-    where
-      by : (t : Bool) → cond t (lowest (bad_line names) (length names) + 1) 0 ≡ 0 → t ≡ false
-      by true e = absurd (omega arith)
-      by false e = refl
 
   module _ (accepted : bad_names names ≡ false) where
     pub each_fine : (i : ℕ) → i < length names → Fine i

@@ -7,11 +7,12 @@ use mathlib.Core.Logic.{⊎_elim}
 use mathlib.Core.Bool.{Bool, true, false, cond}
 use mathlib.Core.List.{List}
 use lib.ListN.{length, get_or}
+use Rattle.std.specs.Prelude.{Some, None}
 use lib.Dec.{eqb}
 use borrow.Author.Tests.{eqb-true, eqb-false}
 use Rattle.meaning.proofs.Bools.{lt_or_ge, eq_or_ne}
 use Rattle.names.specs.Names.{same}
-use Rattle.names.specs.Index.{line_at, hash_of, line_hash, last_of, Heads, Nexts, Starts, IndexedTo, Found, Placed}
+use Rattle.names.specs.Index.{line_at, hash_of, line_hash, last_of, IndexedTo, Found, Placed}
 use Rattle.names.proofs.Words.{differ}
 use Rattle.names.proofs.Lines.{starts_rise}
 
@@ -79,7 +80,6 @@ module _ (list : List ℕ) (n : ℕ) (heads nexts starts : List ℕ) (indexed : 
   m = length heads
 
   pub placed : (i : ℕ) → i < n → Placed list i starts
-  unfolding Starts
   placed i h = record {
     ended = omega (arith, starts_rise list (suc i) n h, indexed.ended);
     inside = omega (arith, indexed.placed);
@@ -88,7 +88,6 @@ module _ (list : List ℕ) (n : ℕ) (heads nexts starts : List ℕ) (indexed : 
 
   module _ (w : List ℕ) where
     pub searching_starts : (slot : ℕ) → slot ≡ hash_of m w → slot < length heads → Searching list n m w (get_or heads slot 0)
-    unfolding Heads
     searching_starts slot e h =
         let l : get_or heads slot 0 ≡ last_of (line_hash list m) n (hash_of m w) = indexed.lasts slot h ∙ ap (last_of (line_hash list m) n) e in
         record {
@@ -100,7 +99,6 @@ module _ (list : List ℕ) (n : ℕ) (heads nexts starts : List ℕ) (indexed : 
     -- the line before it of the same hash is the next to try
     pub searching_more : (number : ℕ) → 0 < number → Searching list n m w number → same (line_at list (number - 1)) w ≡ false
         → (get_or nexts number 0 < number) × Searching list n m w (get_or nexts number 0)
-    unfolding Nexts
     searching_more zero p s f = absurd (omega arith)
     searching_more (suc k) p s f =
         let z : suc k - 1 ≡ k = omega arith in
@@ -119,11 +117,10 @@ module _ (list : List ℕ) (n : ℕ) (heads nexts starts : List ℕ) (indexed : 
         (omega arith, record { within = omega (arith, s.within); hashed = rw e (last_last f' k (hash_of m w)); passed = back })
 
     pub searching_found : (number : ℕ) → 0 < number → Searching list n m w number → same (line_at list (number - 1)) w ≡ true
-        → Found list n w number
+        → Found list n w (Some number)
     unfolding Found
-    searching_found zero p s e = absurd (omega arith)
-    searching_found (suc k) p s e = let z : suc k - 1 ≡ k = omega arith in (s.within, rw z at e)
+    searching_found number p s e = (p, s.within, e)
 
-    pub searching_none : Searching list n m w 0 → Found list n w 0
+    pub searching_none : Searching list n m w 0 → Found list n w None
     unfolding Found
     searching_none s i h = s.passed i (omega arith) h

@@ -2,7 +2,7 @@
 -- Assumes nothing.
 use Prim.Native.Nat.{ℕ, suc, ◌*◌, ◌/◌, ◌%◌, ◌<◌}
 use native.Mathlib.Omega.{arith}
-use mathlib.Core.Path.{◌≡◌, refl, sym, ap, ◌∙◌}
+use mathlib.Core.Path.{◌≡◌, refl, sym, ap, subst, ◌∙◌}
 use mathlib.Core.Logic.{⊎_elim}
 use mathlib.Core.Bool.{Bool, true, false, cond}
 use mathlib.Core.List.{List}
@@ -27,7 +27,7 @@ room_for_short list h = record { hashes = omega arith; chained = omega arith; pl
 
 module _ (hash : ℕ → ℕ) (n : ℕ) where
   heads_more : (heads : List ℕ) (slot : ℕ) → slot ≡ hash n → Heads hash n heads → Heads hash (suc n) (set heads slot (suc n))
-  unfolding Heads last_of
+  unfolding last_of
   heads_more heads slot e lasts h l =
       let k : h < length heads = rw length-set at l in
       ⊎_elim
@@ -37,7 +37,6 @@ module _ (hash : ℕ → ℕ) (n : ℕ) where
 
   nexts_more : (nexts : List ℕ) (v : ℕ) → suc n < length nexts → v ≡ last_of hash n (hash n) → Nexts hash n nexts
       → Nexts hash (suc n) (set (set nexts (suc n) v) 0 (suc n))
-  unfolding Nexts
   nexts_more nexts v room e befores i l =
       get_or-set_other (set nexts (suc n) v) 0 (suc i) (suc n) 0 (λ p. omega arith)
       ∙ ⊎_elim
@@ -47,7 +46,6 @@ module _ (hash : ℕ → ℕ) (n : ℕ) where
 
 starts_more : (list : List ℕ) (n : ℕ) (starts : List ℕ) → n < length starts * 8 → Starts list n starts
     → Starts list (suc n) (cond (eqb (n % 8) 0) (set starts (n / 8) (line_start list n)) starts)
-unfolding Starts
 starts_more list n starts room begins k l = by (eqb (n % 8) 0) refl
   where
     by : (t : Bool) → eqb (n % 8) 0 ≡ t → get_or (cond t (set starts (n / 8) (line_start list n)) starts) k 0 ≡ line_start list (k * 8)
@@ -67,7 +65,7 @@ noted_length false starts k at = refl
 -- no line is indexed
 pub indexed_none : (list heads nexts starts : List ℕ) → 0 < length heads → 0 < length nexts
     → IndexedTo list 0 (replicate (length heads) 0) (set nexts 0 0) starts
-unfolding Heads Nexts Starts line_start last_of
+unfolding line_start last_of
 indexed_none list heads nexts starts h k = record {
   ended = omega arith;
   counted = get_or-set_same nexts 0 0 0 k;
@@ -82,7 +80,6 @@ indexed_none list heads nexts starts h k = record {
 -- the last line of a hash
 head_at : (list : List ℕ) (n : ℕ) (heads nexts starts : List ℕ) → IndexedTo list n heads nexts starts → (h : ℕ) → h < length heads
     → get_or heads h 0 ≡ last_of (line_hash list (length heads)) n h
-unfolding Heads
 head_at list n heads nexts starts x h l = x.lasts h l
 
 -- and one more
@@ -104,7 +101,7 @@ indexed_more list n heads nexts starts slot at x room e inside p =
       hashes = rw long x.hashes;
       chained = rw chain c;
       placed = rw (noted_length (eqb (n % 8) 0) starts (n / 8) at) room.placed;
-      lasts = rw long (heads_more hash n heads slot e x.lasts);
+      lasts = subst (λ m. Heads (line_hash list m) (suc n) (set heads slot (suc n))) (sym long) (heads_more hash n heads slot e x.lasts);
       befores = rw long (nexts_more hash n nexts (get_or heads slot 0) c v x.befores);
       begins = rw p (starts_more list n starts room.placed x.begins);
     }

@@ -3,7 +3,9 @@
 -- Assumes nothing.
 use Prim.Native.Nat.{ℕ, zero, suc, ◌+◌, ◌-◌, ◌<◌, ◌≤◌}
 use native.Mathlib.Omega.{arith}
-use mathlib.Core.Path.{◌≡◌, sym, ◌∙◌}
+use native.Mathlib.Numerals.{add-one}
+use mathlib.Core.Path.{◌≡◌, sym, ap, ◌∙◌}
+use Rattle.std.specs.Prelude.{Option, Some, None, is_some}
 use mathlib.Core.Logic.{⊎_elim}
 use mathlib.Core.Bool.{true, false, ◌||◌, not, cond, true≢false}
 use mathlib.Core.List.{List, []}
@@ -25,17 +27,19 @@ module _ (list : List ℕ) where
   names = names_of list
 
   -- a word is one of the first n names exactly if a search finds it among the first n lines
-  pub found_among : (n : ℕ) (w : List ℕ) (r : ℕ) → line_start list n ≤ length list → Found list n w r → ltb (position names w) n ≡ ltb 0 r
+  pub found_among : (n : ℕ) (w : List ℕ) (r : Option ℕ) → line_start list n ≤ length list → Found list n w r → ltb (position names w) n ≡ is_some r
   unfolding Found
-  found_among n w zero h f =
+  found_among n w None h f =
       let other : (i : ℕ) → i < n → same (get_or names i []) w ≡ false =
       λ i l. rw (name_is_line list i (omega (arith, starts_rise list (suc i) n l))).1 (f i l) in
       le-ltb (position names w) n (position_behind names w n (enough_names list n h) other)
-  found_among n w (suc i) h f =
-      let l : line_start list (suc i) ≤ length list = omega (arith, starts_rise list (suc i) n f.0) in
+  found_among n w (Some zero) h f = absurd (omega (arith, f.0))
+  found_among n w (Some (suc i)) h f =
+      let z : suc i - 1 ≡ i = omega arith in
+      let l : line_start list (suc i) ≤ length list = omega (arith, starts_rise list (suc i) n f.1) in
       let q = name_is_line list i l in
-      let p : position names w ≤ i = position_within names w i q.0 (rw q.1 f.1) in
-      lt-ltb (position names w) n (omega (arith, f.0)) ∙ sym (lt-ltb 0 (suc i) (omega arith))
+      let p : position names w ≤ i = position_within names w i q.0 (rw q.1 (rw z at f.2)) in
+      lt-ltb (position names w) n (omega (arith, f.1))
 
   -- a line that is not ended is bad
   bad_unended : (i : ℕ) → line_start list i < length list → length list < line_start list (suc i) → bad_line names i ≡ true
@@ -91,12 +95,14 @@ module _ (list : List ℕ) where
 -- ---- the number of a word
 
 -- where all lines are indexed, the number of the line that a search finds is that of the word
-pub number_found : (list heads nexts starts w : List ℕ) (r : ℕ) → Indexed list heads nexts starts → Found list (length (names_of list)) w r
-    → r ≡ cond (is_named (names_of list) w) (number_of (names_of list) w) 0
+pub number_found : (list heads nexts starts w : List ℕ) (r : Option ℕ) → Indexed list heads nexts starts → Found list (length (names_of list)) w r
+    → r ≡ cond (is_named (names_of list) w) (Some (number_of (names_of list) w)) None
 unfolding is_named number_of Found
-number_found list heads nexts starts w zero x f = rw (found_among list (length (names_of list)) w 0 x.all.ended f)
-number_found list heads nexts starts w (suc i) x f =
-    let l : line_start list (suc i) ≤ length list = omega (arith, starts_rise list (suc i) (length (names_of list)) f.0, x.all.ended) in
-    let e : get_or (names_of list) i [] ≡ w = (name_is_line list i l).1 ∙ same_equal (line_at list i) w f.1 in
-    let p : position (names_of list) w ≡ i = rw e at (different_names (names_of list) x.fine i f.0) in
-    rw (found_among list (length (names_of list)) w (suc i) x.all.ended f, lt-ltb 0 (suc i) (omega arith), p) (omega arith)
+number_found list heads nexts starts w None x f = rw (found_among list (length (names_of list)) w None x.all.ended f)
+number_found list heads nexts starts w (Some zero) x f = absurd (omega (arith, f.0))
+number_found list heads nexts starts w (Some (suc i)) x f =
+    let z : suc i - 1 ≡ i = omega arith in
+    let l : line_start list (suc i) ≤ length list = omega (arith, starts_rise list (suc i) (length (names_of list)) f.1, x.all.ended) in
+    let e : get_or (names_of list) i [] ≡ w = (name_is_line list i l).1 ∙ same_equal (line_at list i) w (rw z at f.2) in
+    let p : position (names_of list) w ≡ i = rw e at (different_names (names_of list) x.fine i f.1) in
+    rw (found_among list (length (names_of list)) w (Some (suc i)) x.all.ended f, p) (ap Some (sym (add-one i)))

@@ -5,7 +5,7 @@ use native.Mathlib.Omega.{arith}
 use native.Mathlib.Numerals.{add-one}
 use mathlib.Core.Path.{◌≡◌, refl, sym, ap, ◌∙◌}
 use mathlib.Core.Logic.{⊎_elim}
-use mathlib.Core.Bool.{true, false, cond, true≢false}
+use mathlib.Core.Bool.{true, false}
 use mathlib.Core.List.{List}
 use lib.ListN.{length, take, drop, set, replicate, length-set, length-replicate}
 use Rattle.meaning.proofs.Bools.{lt_or_ge}
@@ -85,25 +85,20 @@ module _ (list : List ℕ) (heads₀ nexts₀ starts₀ : ℕ) (heads nexts star
             ⊎_elim (λ (d : i < line). x.passed i d) (λ (d : line ≤ i). let p : i ≡ line = omega arith in rw p e) (lt_or_ge i line);
       }
 
-  -- what is told at the end: the first bad line or 0, and where there is none all lines are indexed
-  abbrev Told : ℕ → Type 0
-  Told r =
-      (r ≡ cond (bad_names (names_of list)) (bad_line_number (names_of list)) 0)
-      × (bad_names (names_of list) ≡ false → Indexed list heads nexts starts)
-
   -- where the line is bad, it is the first
-  pub first_bad : at < length list → bad_line (names_of list) line ≡ true → Told (line + 1)
+  pub first_bad : at < length list → bad_line (names_of list) line ≡ true
+      → (bad_names (names_of list) ≡ true) × (line + 1 ≡ bad_line_number (names_of list))
   unfolding bad_names bad_line_number
   first_bad h e =
       let inside : line < length (names_of list) = line_is_named list line (omega (arith, x.begins)) in
       let l : IsLowest (bad_line (names_of list)) (length (names_of list)) line = record { below = inside; holds = e; first = x.passed } in
-      (rw (found_some l, found_lowest l), λ f. absurd (true≢false (sym (found_some l) ∙ f)))
+      (found_some l, rw (found_lowest l))
 
   -- where no byte is left, no line is bad, and all are indexed
-  pub all_indexed : length list ≤ at → Told 0
+  pub all_indexed : length list ≤ at → Indexed list heads nexts starts
   unfolding bad_names
   all_indexed h =
       let b = x.begins in
       let n : length (names_of list) ≡ line = all_passed list line (omega (arith, x.indexed.ended)) in
       let none = none_below (bad_line (names_of list)) (length (names_of list)) (λ i l. x.passed i (omega arith)) in
-      (rw none, λ f. record { fine = none; all = rw n x.indexed })
+      record { fine = none; all = rw n x.indexed }

@@ -1,7 +1,7 @@
 -- The index of a list of names: lines as places of bytes, chains of the lines of one hash, and what the lent slices hold. Nobody has to
 -- believe any of it: what the public functions promise of a list is said in Names.antt.
 -- Assumes nothing: these are definitions.
-use Rattle.std.specs.Prelude.{ℕ, zero, suc, ◌+◌, ◌*◌, ◌/◌, ◌%◌, ◌<◌, ◌≤◌, min, ◌≡◌, true, false, cond, List, [], ◌∷◌, length, get_or, take, drop, eqb}
+use Rattle.std.specs.Prelude.{ℕ, zero, suc, ◌+◌, ◌-◌, ◌*◌, ◌/◌, ◌%◌, ◌<◌, ◌≤◌, min, ◌≡◌, true, false, cond, List, [], ◌∷◌, length, get_or, take, drop, eqb, Option, Some, None}
 use Rattle.names.specs.Names.{same, most_names, names_of, bad_names}
 
 -- ---- lines as places of bytes
@@ -43,15 +43,15 @@ last_of hash zero h = 0
 last_of hash (suc n) h = cond (eqb (hash n) h) (suc n) (last_of hash n h)
 
 -- each hash has its last line
-unfoldable pub Heads : (ℕ → ℕ) → ℕ → List ℕ → Type 0
+abbrev pub Heads : (ℕ → ℕ) → ℕ → List ℕ → Type 0
 Heads hash n heads = (h : ℕ) → h < length heads → get_or heads h 0 ≡ last_of hash n h
 
 -- each line has the line before it of the same hash
-unfoldable pub Nexts : (ℕ → ℕ) → ℕ → List ℕ → Type 0
+abbrev pub Nexts : (ℕ → ℕ) → ℕ → List ℕ → Type 0
 Nexts hash n nexts = (i : ℕ) → i < n → get_or nexts (suc i) 0 ≡ last_of hash i (hash i)
 
 -- each 8th line has its first byte
-unfoldable pub Starts : List ℕ → ℕ → List ℕ → Type 0
+abbrev pub Starts : List ℕ → ℕ → List ℕ → Type 0
 Starts list n starts = (k : ℕ) → k * 8 < n → get_or starts k 0 ≡ line_start list (k * 8)
 
 -- ---- what the slices hold
@@ -78,10 +78,10 @@ pub record Indexed (list heads nexts starts : List ℕ) : Type 0 where
   pub fine : bad_names (names_of list) ≡ false
   pub all : IndexedTo list (length (names_of list)) heads nexts starts
 
--- a line before n that is the word, as its number; 0 only where there is none
-unfoldable pub Found : List ℕ → ℕ → List ℕ → ℕ → Type 0
-Found list n w zero = (i : ℕ) → i < n → same (line_at list i) w ≡ false
-Found list n w (suc i) = (i < n) × (same (line_at list i) w ≡ true)
+-- a line before n that is the word, as its number from 1; none only where there is none
+unfoldable pub Found : List ℕ → ℕ → List ℕ → Option ℕ → Type 0
+Found list n w None = (i : ℕ) → i < n → same (line_at list i) w ≡ false
+Found list n w (Some r) = (0 < r) × (r ≤ n) × (same (line_at list (r - 1)) w ≡ true)
 
 -- where the search of a line's first byte begins
 pub record Placed (list : List ℕ) (i : ℕ) (starts : List ℕ) : Type 0 where

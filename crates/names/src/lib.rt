@@ -3,87 +3,58 @@
 // before each, and at 0 how many lines there are; `starts` has the first byte of each 8th line. So a list of any length takes little room.
 #![tactic(auto)]
 
-ghost use Rattle.std.specs.Prelude.{◌≡◌, false, ◌&&◌, cond, ◌+◌, ◌-◌, ◌*◌, ◌/◌, ◌%◌, ◌<◌, ◌≤◌, leb, eqb, length, get_or, take, drop, set, replicate};
+ghost use Rattle.std.specs.Prelude.{◌≡◌, true, false, cond, ◌+◌, ◌-◌, ◌*◌, ◌/◌, ◌%◌, ◌<◌, ◌≤◌, eqb, length, get_or, take, drop, set, MatchResult, Option, Some, None};
 ghost use Rattle.names.specs.Names.{is_letter, is_name_byte, all_name_bytes, good_name, same};
 ghost use Rattle.names.specs.Names.{names_of, bad_line, bad_names, bad_line_number, is_named, number_of};
 ghost use Rattle.names.specs.Index.{line_length, line_start, line_at, hash_of};
 ghost use Rattle.names.specs.Index.{Roomy, IndexedTo, Indexed, Found, Placed, LineFrom, HasRoom};
 
-use basics::either;
-
 // The most names of a list.
 const MOST_NAMES: usize = 65535;
 
-// Is a byte one of these, from low to high?
-fn between(b: u8, low: u8, high: u8) -> bool
-    ensures { result ≡ (leb low b && leb b high) }
-{
-    basics::both(low <= b, b <= high)
+// The first lines of a list, of which the entry at 0 of `nexts` says how many, with their hash index. It is made by hand, in memory that the
+// caller lends, and not a map of the library: no crate but a program has a heap.
+#[derive(Clone, Copy)]
+struct Part<'a> {
+    list: &'a [u8],
+    heads: &'a [u16],
+    nexts: &'a [u16],
+    starts: &'a [usize],
+    ghost indexed: { IndexedTo list.now (get_or nexts.now 0 0) heads.now nexts.now starts.now },
+}
+
+// A list of names that is not refused, with all its lines indexed.
+#[derive(Clone, Copy)]
+pub struct Names<'a> {
+    pub list: &'a [u8],
+    pub heads: &'a [u16],
+    pub nexts: &'a [u16],
+    pub starts: &'a [usize],
+    ghost indexed: { Indexed list.now heads.now nexts.now starts.now },
 }
 
 // An ASCII letter or `_`.
 pub fn is_letter(b: u8) -> bool
     ensures { result ≡ is_letter b }
 {
-    either(
-        either(between(b, b'A', b'Z'), between(b, b'a', b'z')),
-        b == b'_',
-    )
+    b.is_ascii_alphabetic() || b == b'_'
 }
 
 // Such, a digit, `-` or `.`.
 pub fn is_name_byte(b: u8) -> bool
     ensures { result ≡ is_name_byte b }
 {
-    either(
-        either(either(is_letter(b), between(b, b'0', b'9')), b == b'-'),
-        b == b'.',
-    )
-}
-
-// Has a word only such bytes?
-fn all_name_bytes(word: &[u8]) -> bool
-    ensures { result ≡ all_name_bytes word.now }
-{
-    let mut i = 0;
-    while i < word.len() {
-        if !is_name_byte(word[i]) {
-            return false;
-        }
-        i += 1;
-    }
-    true
+    is_letter(b) || b.is_ascii_digit() || b == b'-' || b == b'.'
 }
 
 // Is a word a name?
 fn is_good(word: &[u8]) -> bool
     ensures { result ≡ good_name word.now }
 {
-    if word.len() == 0 {
-        return false;
+    match word {
+        [] => false,
+        [first, rest @ ..] => is_letter(*first) && rest.iter().all(|b| is_name_byte(*b)),
     }
-    if is_letter(word[0]) {
-        all_name_bytes(&word[1..])
-    } else {
-        false
-    }
-}
-
-// Are two words the same, byte by byte?
-fn is_same(a: &[u8], b: &[u8]) -> bool
-    ensures { result ≡ same a.now b.now }
-{
-    if a.len() != b.len() {
-        return false;
-    }
-    let mut i = 0;
-    while i < a.len() {
-        if a[i] != b[i] {
-            return false;
-        }
-        i += 1;
-    }
-    true
 }
 
 // The hash of a word, below so many.
@@ -92,10 +63,8 @@ fn hash(word: &[u8], size: usize) -> usize
     ensures { (result ≡ hash_of size word.now) × (result < size) }
 {
     let mut h = 0;
-    let mut i = 0;
-    while i < word.len() {
-        h = (h * 31 + word[i] as usize) % 65536;
-        i += 1;
+    for b in word {
+        h = (h * 31 + *b as usize) % 65536;
     }
     h % size
 }
@@ -104,79 +73,73 @@ fn hash(word: &[u8], size: usize) -> usize
 fn line_length(rest: &[u8]) -> usize
     ensures { (result ≡ line_length rest.now) × (result ≤ length rest.now) }
 {
-    let mut i = 0;
-    while i < rest.len() {
-        if rest[i] == b'\n' {
-            return i;
+    rest.iter().position(|b| *b == b'\n').unwrap_or(rest.len())
+}
+
+impl<'a> Part<'a> {
+    // Where a line begins: from the first byte of the 8th line at or before it, at most seven are passed.
+    fn line_start(&self, line: usize) -> usize
+        requires { Placed self.now.list.now line self.now.starts.now }
+        ensures { result ≡ line_start self.now.list.now line }
+    {
+        let mut at = self.starts[line / 8];
+        for _ in line / 8 * 8..line {
+            at += line_length(&self.list[at..]) + 1;
         }
-        i += 1;
+        at
     }
-    i
-}
 
-// Where a line begins: from the first byte of the 8th line at or before it, at most seven are passed.
-fn line_start(list: &[u8], starts: &[usize], line: usize) -> usize
-    requires { Placed list.now line starts.now }
-    ensures { result ≡ line_start list.now line }
-{
-    let mut at = starts[line / 8];
-    let mut passed = line / 8 * 8;
-    while passed < line {
-        at = at + line_length(&list[at..]) + 1;
-        passed += 1;
+    // Is a line this word?
+    fn is_line(&self, line: usize, word: &[u8]) -> bool
+        requires { Placed self.now.list.now line self.now.starts.now }
+        ensures { result ≡ same (line_at self.now.list.now line) word.now }
+    {
+        let at = self.line_start(line);
+        let end = at + line_length(&self.list[at..]);
+        &self.list[at..end] == word
     }
-    at
-}
 
-// Is a line this word?
-fn is_line(list: &[u8], starts: &[usize], line: usize, word: &[u8]) -> bool
-    requires { Placed list.now line starts.now }
-    ensures { result ≡ same (line_at list.now line) word.now }
-{
-    let at = line_start(list, starts, line);
-    let end = at + line_length(&list[at..]);
-    is_same(&list[at..end], word)
-}
-
-// The number of an indexed line that is this word, or 0: it goes along the chain of its hash.
-fn find(list: &[u8], heads: &[u16], nexts: &[u16], starts: &[usize], word: &[u8]) -> usize
-    requires { IndexedTo list.now (get_or nexts.now 0 0) heads.now nexts.now starts.now }
-    ensures { Found list.now (get_or nexts.now 0 0) word.now result }
-{
-    let slot = hash(word, heads.len());
-    let mut number = heads[slot] as usize;
-    while 0 < number {
-        if is_line(list, starts, number - 1, word) {
-            return number;
+    // The number of a line that is this word: it goes along the chain of its hash.
+    fn find(&self, word: &[u8]) -> Option<usize>
+        ensures { Found self.now.list.now (get_or self.now.nexts.now 0 0) word.now result }
+    {
+        let slot = hash(word, self.heads.len());
+        let mut number = self.heads[slot] as usize;
+        while 0 < number {
+            if self.is_line(number - 1, word) {
+                return Some(number);
+            }
+            number = self.nexts[number] as usize;
         }
-        number = nexts[number] as usize;
+        None
     }
-    0
+
+    // Is the line from one byte to before another bad? Those before it are indexed.
+    fn is_bad_line(&self, line: usize, at: usize, end: usize) -> bool
+        requires { (get_or self.now.nexts.now 0 0 ≡ line) × LineFrom self.now.list.now line at end }
+        ensures { result ≡ bad_line (names_of self.now.list.now) line }
+    {
+        if end == self.list.len() || MOST_NAMES <= line {
+            return true;
+        }
+        let word = &self.list[at..end];
+        !is_good(word) || self.find(word).is_some()
+    }
 }
 
-// Is the line from one byte to before another bad? Those before it are indexed.
-fn is_bad_line(
-    list: &[u8],
-    heads: &[u16],
-    nexts: &[u16],
-    starts: &[usize],
-    line: usize,
-    at: usize,
-    end: usize,
-) -> bool
-    requires { IndexedTo list.now line heads.now nexts.now starts.now × LineFrom list.now line at end }
-    ensures { result ≡ bad_line (names_of list.now) line }
-{
-    if end == list.len() {
-        return true;
+impl<'a> Names<'a> {
+    // The number of a word that is one of the names: its place, from 1.
+    pub fn number_of(&self, word: &[u8]) -> Option<usize>
+        ensures { result ≡ cond (is_named (names_of self.now.list.now) word.now) (Some (number_of (names_of self.now.list.now) word.now)) None }
+    {
+        let lines = Part {
+            list: self.list,
+            heads: self.heads,
+            nexts: self.nexts,
+            starts: self.starts,
+        };
+        lines.find(word)
     }
-    if !is_good(&list[at..end]) {
-        return true;
-    }
-    if MOST_NAMES <= line {
-        return true;
-    }
-    0 < find(list, heads, nexts, starts, &list[at..end])
 }
 
 // Notes where a line begins, if it is an 8th.
@@ -211,56 +174,35 @@ fn add_line(
     heads[slot] = number;
 }
 
-// No line is indexed yet.
-fn clear(heads: &mut [u16])
-    ensures { heads.new ≡ replicate (length heads.old) 0 }
-{
-    let mut i = 0;
-    while i < heads.len() {
-        heads[i] = 0;
-        i += 1;
-    }
-}
-
-// Indexes the list: the first bad line, from 1, or 0. What the slices held before does not matter.
-pub fn index(list: &[u8], heads: &mut [u16], nexts: &mut [u16], starts: &mut [usize]) -> usize
+// Indexes the list in slices that have room for it, or gives the number of its first bad line. What the slices held before does not matter.
+pub fn index(
+    list: &[u8],
+    heads: &mut [u16],
+    nexts: &mut [u16],
+    starts: &mut [usize],
+) -> Result<(), usize>
     requires { Roomy list.now (length heads.old) (length nexts.old) (length starts.old) }
-    ensures { (result ≡ cond (bad_names (names_of list.now)) (bad_line_number (names_of list.now)) 0)
-        × (length heads.new ≡ length heads.old)
-        × (length nexts.new ≡ length nexts.old)
-        × (length starts.new ≡ length starts.old)
-        × (bad_names (names_of list.now) ≡ false
-        → Indexed list.now heads.new nexts.new starts.new) }
+    ensures indexed { MatchResult result (λ _. Indexed list.now heads.new nexts.new starts.new) (λ line. (bad_names (names_of list.now) ≡ true) × (line ≡ bad_line_number (names_of list.now))) }
+    ensures lengths { (length heads.new ≡ length heads.old) × (length nexts.new ≡ length nexts.old) × (length starts.new ≡ length starts.old) }
 {
-    clear(heads);
+    heads.fill(0);
     nexts[0] = 0;
     let mut line = 0;
     let mut at = 0;
     while at < list.len() {
         let end = at + line_length(&list[at..]);
-        if is_bad_line(list, heads, nexts, starts, line, at, end) {
-            return line + 1;
+        let lines = Part {
+            list,
+            heads,
+            nexts,
+            starts,
+        };
+        if lines.is_bad_line(line, at, end) {
+            return Err(line + 1);
         }
         add_line(list, heads, nexts, starts, line, at, end);
         line += 1;
         at = end + 1;
     }
-    0
-}
-
-// The number of the word that stands in a text from one index to before another, in an indexed list, or 0.
-pub fn number_of(
-    list: &[u8],
-    heads: &[u16],
-    nexts: &[u16],
-    starts: &[usize],
-    text: &[u8],
-    from: usize,
-    to: usize,
-) -> usize
-    requires { Indexed list.now heads.now nexts.now starts.now × (from ≤ to) × (to ≤ length text.now) }
-    ensures { result ≡ cond (is_named (names_of list.now) (take (to - from) (drop from text.now)))
-        (number_of (names_of list.now) (take (to - from) (drop from text.now))) 0 }
-{
-    find(list, heads, nexts, starts, &text[from..to])
+    Ok(())
 }

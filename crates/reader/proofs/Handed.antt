@@ -68,26 +68,25 @@ room_enough rows held deep room literalRoom e =
 
 module _ (count held deep : ℕ) (drafted : List ℕ) (values : List Float) (rows : List ℕ) (out : List Float) (r : Answer) (told : ℕ) where
   pub hands_refused :
-      r ≡ handed count held deep (length rows) (length out) → told ≡ literals_told (handed count held deep (length rows) (length out)) held
-      → (r.number ≡ 0 → ⊥) → Hands count held deep drafted values rows out r told rows out
+      r ≡ handed count held deep (length rows) (length out) → told ≡ literals_told r held → (r.number ≡ 0 → ⊥) → Hands count held deep drafted values rows out r told rows out
   unfolding output_of
   hands_refused e t n = record {
     answers = e;
-    tells = t ∙ ap (λ (a : Answer). literals_told a held) (sym e);
+    tells = t;
     writes = rw (ne_eqb r.number 0 n);
     writes_literals = rw (ne_eqb r.number 0 n);
   }
 
   pub hands_written :
       {rows' : List ℕ} {out' : List Float} → r ≡ handed count held deep (length rows) (length out)
-      → told ≡ literals_told (handed count held deep (length rows) (length out)) held → r.number ≡ 0
+      → told ≡ literals_told r held → r.number ≡ 0
       → rows' ≡ take (5 * count) drafted ++ drop (length (take (5 * count) drafted)) rows
       → out' ≡ take held values ++ drop (length (take held values)) out
       → Hands count held deep drafted values rows out r told rows' out'
   unfolding output_of
   hands_written e t n w v = record {
     answers = e;
-    tells = t ∙ ap (λ (a : Answer). literals_told a held) (sym e);
+    tells = t;
     writes = w ∙ sym (rw (eq-eqb r.number 0 n));
     writes_literals = v ∙ sym (rw (eq-eqb r.number 0 n));
   }
@@ -223,26 +222,19 @@ unfolding output_of literal_count
 reads_refused text list rows out r e n =
     (form_of text, form_of_lem text, e, sym (rw (ne_eqb r.number 0 n)), sym (rw (ne_eqb r.number 0 n)), sym (rw (ne_eqb r.number 0 n)))
 
-module _ (text list rows : List ℕ) (out : List Float) (n p count : ℕ) where
+module _ (text list rows : List ℕ) (out : List Float) where
   -- a bad list of names
   pub reads_bad_names :
-      (bad : ℕ) → bad ≡ cond (bad_names (names_of list)) (bad_line_number (names_of list)) 0 → (bad ≡ 0 → ⊥) → n ≡ 22 → p ≡ bad → count ≡ 0
-      → ReadsPath text list rows out (answer n p) count rows out
-  reads_bad_names bad e b hn hp hc = decide (bad_names (names_of list)) refl
-    where
-      decide : (x : Bool) → bad_names (names_of list) ≡ x → ReadsPath text list rows out (answer n p) count rows out
-      decide true t =
-          let line : bad ≡ bad_line_number (names_of list) = e ∙ rw t in
-          rw (hn, hp, hc, line)
-          (reads_refused text list rows out (answer 22 (bad_line_number (names_of list)))
-          (sym (names_refused text list (length rows) (length out) (form_of text) t)) (λ z. omega (arith, z)))
-      decide false t = absurd (b (e ∙ rw t))
+      (line : ℕ) → bad_names (names_of list) ≡ true → line ≡ bad_line_number (names_of list) → ReadsPath text list rows out (answer 22 line) 0 rows out
+  reads_bad_names line bad e =
+      rw e
+      (reads_refused text list rows out (answer 22 (bad_line_number (names_of list)))
+      (sym (names_refused text list (length rows) (length out) (form_of text) bad)) (λ z. omega (arith, z)))
 
   -- what is wrong in the text
   pub reads_wrong :
-      (x : Fault) → found (form_of text) text list ≡ Some x → bad_names (names_of list) ≡ false → n ≡ x.number → p ≡ x.place → count ≡ 0
-      → ReadsPath text list rows out (answer n p) count rows out
-  reads_wrong x e fine hn hp hc =
-      rw (hn, hp, hc)
-      (reads_refused text list rows out (answer x.number x.place)
-      (sym (found_refused text list (length rows) (length out) (form_of text) x fine e)) (found_numbered text list x e))
+      (x : Fault) → found (form_of text) text list ≡ Some x → bad_names (names_of list) ≡ false
+      → ReadsPath text list rows out (answer x.number x.place) 0 rows out
+  reads_wrong x e fine =
+      reads_refused text list rows out (answer x.number x.place)
+      (sym (found_refused text list (length rows) (length out) (form_of text) x fine e)) (found_numbered text list x e)

@@ -6,6 +6,7 @@ use native.Mathlib.Omega.{arith}
 use mathlib.Core.Path.{◌≡◌, refl, sym, ◌∙◌, ap, subst}
 use mathlib.Core.Bool.{Bool, true, false, ◌&&◌, ◌||◌, not, cond, true≢false}
 use mathlib.Core.List.{List, [], ◌∷◌}
+use Rattle.std.specs.Prelude.{Some, None, is_some}
 use lib.ListN.{length, get_or}
 use lib.Dec.{T, eqb, ltb}
 use Rattle.meaning.proofs.Bools.{and_l, and_r}
@@ -158,19 +159,19 @@ module _ {text : List ℕ} {kind begin end : ℕ} (r : Reads text kind begin end
   unfolding L.number_at
   number_bytes k = ap (between text begin) (reads_ends.number k)
 
--- ---- the number of a name, which is 0 for none
+-- ---- the number of a name
 
-pub nameless : (names : List (List ℕ)) (w : List ℕ) → cond (is_named names w) (number_of names w) 0 ≡ 0 → is_named names w ≡ false
-unfolding number_of
-nameless names w = by (is_named names w)
-  where
-    by : (b : Bool) → cond b (position names w + 1) 0 ≡ 0 → b ≡ false
-    by true e = absurd (omega arith)
-    by false e = refl
+module _ (names : List (List ℕ)) (w : List ℕ) where
+  pub nameless : is_some (cond (is_named names w) (Some (number_of names w)) None) ≡ false → is_named names w ≡ false
+  nameless = by (is_named names w)
+    where
+      by : (b : Bool) → is_some (cond b (Some (number_of names w)) None) ≡ false → b ≡ false
+      by true e = e
+      by false e = refl
 
-pub has_name : (names : List (List ℕ)) (w : List ℕ) → (cond (is_named names w) (number_of names w) 0 ≡ 0 → ⊥) → is_named names w ≡ true
-has_name names w = by (is_named names w)
-  where
-    by : (b : Bool) → (cond b (number_of names w) 0 ≡ 0 → ⊥) → b ≡ true
-    by true e = refl
-    by false e = absurd (e refl)
+  pub has_name : is_some (cond (is_named names w) (Some (number_of names w)) None) ≡ true → is_named names w ≡ true
+  has_name = by (is_named names w)
+    where
+      by : (b : Bool) → is_some (cond b (Some (number_of names w)) None) ≡ true → b ≡ true
+      by true e = refl
+      by false e = e

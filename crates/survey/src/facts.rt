@@ -1,13 +1,12 @@
 // What the words of a token say: its own fault, and the name before a `(`.
 ghost use Rattle.std.specs.Prelude.{◌≡◌, false, ◌<◌, ◌≤◌, length};
-ghost use Rattle.names.specs.Index.{Indexed};
 ghost use Rattle.text.specs.Tokens.{lexeme};
 ghost use Rattle.text.specs.Limited.{source};
 ghost use Rattle.levels.specs.Levels.{own_of};
 ghost use Rattle.survey.specs.Standing.{name_at, Reads};
 
 use literals::digit_count;
-use names::number_of;
+use names::Names;
 use tokens::{axis_number, function_number, has_prefix, is_star};
 
 // The faults of names: one with a prefix, one that is not in the list.
@@ -16,17 +15,9 @@ const PREFIXED: u32 = 26;
 const UNKNOWN: u32 = 24;
 
 // The fault of a name, if it is not `*`.
-fn name_fault(
-    text: &[u8],
-    list: &[u8],
-    heads: &[u16],
-    nexts: &[u16],
-    starts: &[usize],
-    begin: usize,
-    end: usize,
-) -> Option<u32>
-    requires { Indexed list.now heads.now nexts.now starts.now × Reads text.now 9 begin end }
-    ensures { result ≡ own_of (source text.now list.now) 9 begin }
+fn name_fault(text: &[u8], names: &Names, begin: usize, end: usize) -> Option<u32>
+    requires { Reads text.now 9 begin end }
+    ensures { result ≡ own_of (source text.now names.now.list.now) 9 begin }
 {
     if is_star(text, begin) {
         return None;
@@ -34,28 +25,19 @@ fn name_fault(
     if has_prefix(text, begin) {
         return Some(PREFIXED);
     }
-    if number_of(list, heads, nexts, starts, text, begin, end) == 0 {
+    if names.number_of(&text[begin..end]).is_none() {
         return Some(UNKNOWN);
     }
     None
 }
 
 // The number of a token's own fault, if it has one.
-pub fn own_fault(
-    text: &[u8],
-    list: &[u8],
-    heads: &[u16],
-    nexts: &[u16],
-    starts: &[usize],
-    kind: usize,
-    begin: usize,
-    end: usize,
-) -> Option<u32>
-    requires { Indexed list.now heads.now nexts.now starts.now × Reads text.now kind begin end }
-    ensures { result ≡ own_of (source text.now list.now) kind begin }
+pub fn own_fault(text: &[u8], names: &Names, kind: usize, begin: usize, end: usize) -> Option<u32>
+    requires { Reads text.now kind begin end }
+    ensures { result ≡ own_of (source text.now names.now.list.now) kind begin }
 {
     if kind == 9 {
-        return name_fault(text, list, heads, nexts, starts, begin, end);
+        return name_fault(text, names, begin, end);
     }
     if kind == 13 {
         if axis_number(text, begin, end) <= 11 {

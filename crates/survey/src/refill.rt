@@ -29,10 +29,11 @@ pub fn opened_kind(act: usize, name: usize) -> usize
     requires { act ≡ 16 → name < 6 }
     ensures { result ≡ opened_kind act name }
 {
-    if act == 15 {
-        return 1;
+    match act {
+        15 => 1,
+        16 => 4 + name,
+        _ => 2,
     }
-    if act == 16 { 4 + name } else { 2 }
 }
 
 // The mode in the level that an act opens.
@@ -53,7 +54,6 @@ fn go_on(text: &[u8], t: Trace, s: Seen, window: &[usize], lo: usize, hi: usize)
         at: s.end,
         due: is_due(kind),
         mode: s.act - 1,
-        depth: t.depth,
         name: name_of(text, kind, s.begin, s.end, t.name),
         level: level_in(
             group_of(kind),
@@ -62,6 +62,7 @@ fn go_on(text: &[u8], t: Trace, s: Seen, window: &[usize], lo: usize, hi: usize)
             s.behind,
             t.level,
         ),
+        ..t
     }
 }
 
@@ -80,8 +81,8 @@ fn open(text: &[u8], t: Trace, s: Seen, window: &mut [usize], lo: usize, hi: usi
         due: is_due(kind),
         mode: opened_mode(s.act),
         depth: t.depth + 1,
-        name: t.name,
         level: fresh(opened_kind(s.act, t.name), behind),
+        ..t
     }
 }
 
@@ -95,9 +96,8 @@ fn part(text: &[u8], t: Trace, s: Seen, window: &[usize], lo: usize, hi: usize) 
         at: s.end,
         due: false,
         mode: 0,
-        depth: t.depth,
-        name: t.name,
         level: fresh(9, s.behind),
+        ..t
     }
 }
 
@@ -113,8 +113,8 @@ fn close(text: &[u8], t: Trace, s: Seen, window: &[usize], lo: usize, hi: usize)
         due: true,
         mode: 13,
         depth,
-        name: t.name,
         level: recall(window, depth, lo, hi, t.level),
+        ..t
     }
 }
 

@@ -1,6 +1,5 @@
 // The survey's one pass: the grammar's machine and the lowest fault together.
 ghost use Rattle.std.specs.Prelude.{◌≡◌, true, cond, ◌-◌, ◌*◌, ◌<◌, ◌≤◌, T, eqb, length};
-ghost use Rattle.names.specs.Index.{Indexed};
 ghost use Rattle.text.specs.Forms.{form_of, found};
 ghost use Rattle.levels.proofs.Steps.{arity_in, fault_closed};
 ghost use Rattle.survey.specs.Window.{span, stored};
@@ -10,11 +9,11 @@ use crate::facts::{name_of, own_fault};
 use crate::look::{Seen, look};
 use crate::refill::{opened_kind, opened_mode, refill};
 use crate::window::{SPAN, load, store};
-use basics::{at_most, both, either, same};
 use levels::{
     Read, end_faults, fault_in, fresh, group_of, is_fault_behind, level_in, level_sort, lowered,
     sort_behind, sort_in, tightness_of,
 };
+use names::Names;
 use text::{Fault, Level, Sort};
 use tokens::{is_due, run_end};
 
@@ -36,12 +35,14 @@ pub struct State {
 }
 
 // The survey ends with this fault.
-fn ended(mut s: State, fault: Option<Fault>) -> State
+fn ended(s: State, fault: Option<Fault>) -> State
     ensures { (result.ended ≡ true) × (result.fault ≡ fault) }
 {
-    s.fault = fault;
-    s.ended = true;
-    s
+    State {
+        fault,
+        ended: true,
+        ..s
+    }
 }
 
 // The text is refused at this byte.
@@ -52,6 +53,7 @@ fn refused(s: State, place: usize) -> State
 }
 
 // The level behind a token that leads to a mode or opens a level.
+#[tactic(auto, unfolding(crate::specs::Standing::level_past))]
 fn level_behind(s: State, t: Seen) -> Level
     requires { t.kind < 33 }
     ensures { result ≡ level_past s t }
@@ -62,6 +64,7 @@ fn level_behind(s: State, t: Seen) -> Level
 }
 
 // The fault behind such a token, which may have a fault of its own.
+#[tactic(auto, unfolding(crate::specs::Standing::fault_past))]
 fn fault_behind(s: State, t: Seen, own: Option<u32>) -> Option<Fault>
     requires { t.kind < 33 }
     ensures { result ≡ fault_past own s t }
@@ -84,12 +87,12 @@ fn fault_behind(s: State, t: Seen, own: Option<u32>) -> Option<Fault>
 }
 
 // A token that opens and closes nothing.
+#[tactic(auto, unfolding(crate::specs::Standing::gone_on))]
 fn went(text: &[u8], s: State, t: Seen, own: Option<u32>) -> State
     requires { Reads text.now t.kind t.begin t.end × (s.count < t.end) × (0 < t.act) }
     ensures { result ≡ gone_on text.now own s t }
 {
     let kind = t.kind;
-    let sort = s.sort;
     let level = level_behind(s, t);
     let fault = fault_behind(s, t, own);
     State {
@@ -97,17 +100,17 @@ fn went(text: &[u8], s: State, t: Seen, own: Option<u32>) -> State
         at: t.end,
         due: is_due(kind),
         mode: t.act - 1,
-        depth: s.depth,
-        low: s.low,
         name: name_of(text, kind, t.begin, t.end, s.name),
-        sort: sort_in(group_of(kind), kind, s.mode, sort),
+        sort: sort_in(group_of(kind), kind, s.mode, s.sort),
         level,
         fault,
         ended: false,
+        ..s
     }
 }
 
 // The lowest level for the window when one more is open.
+#[tactic(auto, unfolding(crate::specs::Standing::lowest))]
 fn lowest(depth: usize, low: usize) -> usize
     requires { low ≤ depth }
     ensures { result ≡ lowest depth low }
@@ -116,52 +119,47 @@ fn lowest(depth: usize, low: usize) -> usize
 }
 
 // A token that opens a level.
+#[tactic(auto, unfolding(crate::specs::Standing::opened_by))]
 fn entered(s: State, t: Seen, own: Option<u32>, window: &mut [usize]) -> State
     requires { Opens s t × (length window.old ≡ 4 * span) }
     ensures { (result ≡ opened_by own s t) × (window.new ≡ stored window.old s.depth (level_past s t)) }
 {
-    let count = s.count + 1;
     let depth = s.depth;
-    let inner = depth + 1;
-    let sort = s.sort;
     let fault = fault_behind(s, t, own);
     store(window, depth, level_behind(s, t));
     State {
-        count,
+        count: s.count + 1,
         at: t.end,
         due: is_due(t.kind),
         mode: opened_mode(t.act),
-        depth: inner,
+        depth: depth + 1,
         low: lowest(depth, s.low),
-        name: s.name,
-        sort,
         level: fresh(opened_kind(t.act, s.name), t.behind),
         fault,
         ended: false,
+        ..s
     }
 }
 
 // Is a token taken that does this in a level of this kind? `)` in a group or a call, `]` in a predicate, `,` in a call.
+#[tactic(auto, unfolding(crate::specs::Standing::taken))]
 fn is_taken(act: usize, kind: usize) -> bool
     ensures { result ≡ taken act kind }
 {
-    if act < 18 {
-        return act != 0;
+    match act {
+        0 => false,
+        1..=17 => true,
+        18 => kind == 1 || 4 <= kind,
+        19 => kind == 2,
+        _ => 4 <= kind,
     }
-    if act == 18 {
-        return either(same(kind, 1), at_most(4, kind));
-    }
-    if act == 19 {
-        return kind == 2;
-    }
-    4 <= kind
 }
 
 // The lowest level for a window that is filled again.
 fn refill_from(depth: usize) -> usize
     ensures { result ≡ depth - span }
 {
-    if depth < SPAN { 0 } else { depth - SPAN }
+    depth.saturating_sub(SPAN)
 }
 
 // The window holds the level around the innermost one: it is filled again if it ran empty.
@@ -200,6 +198,7 @@ fn fault_closed(s: State, outer: Level) -> Option<Fault>
 }
 
 // A token that closes a level.
+#[tactic(auto, unfolding(crate::specs::Standing::left_by))]
 fn left(s: State, t: Seen, low: usize, outer: Level) -> State
     requires { T (is_bracketed s.level.kind) × (s.count < t.end) × (0 < s.depth) }
     ensures { result ≡ left_by s t low outer }
@@ -215,34 +214,30 @@ fn left(s: State, t: Seen, low: usize, outer: Level) -> State
         mode: 13,
         depth: s.depth - 1,
         low,
-        name: s.name,
         sort: sort_behind(level.kind, arity_of(s.mode), inner),
         level: outer,
         fault,
         ended: false,
+        ..s
     }
 }
 
 // `,`.
+#[tactic(auto, unfolding(crate::specs::Standing::parted_by))]
 fn parted(s: State, t: Seen, low: usize, outer: Level) -> State
     requires { s.count < t.end }
     ensures { result ≡ parted_by s t low outer }
 {
-    let level = s.level;
-    let sort = s.sort;
-    let fault = s.fault;
     State {
         count: s.count + 1,
         at: t.end,
         due: is_due(t.kind),
         mode: 0,
-        depth: s.depth,
         low,
-        name: s.name,
-        sort,
         level: fresh(9, t.behind),
-        fault: lowered(true, outer.m, end_faults(level, sort, fault)),
+        fault: lowered(true, outer.m, end_faults(s.level, s.sort, s.fault)),
         ended: false,
+        ..s
     }
 }
 
@@ -258,12 +253,13 @@ fn closed(s: State, t: Seen, low: usize, outer: Level) -> State
 }
 
 // The end of a text of this length.
+#[tactic(auto, unfolding(crate::specs::Standing::last_fault))]
 fn finished(length: usize, s: State) -> State
     ensures { (result.ended ≡ true) × (result.fault ≡ last_fault length s) }
 {
     let mode = s.mode;
-    let whole = either(same(mode, 3), at_most(12, mode));
-    if both(whole, same(s.depth, 0)) {
+    let whole = mode == 3 || 12 <= mode;
+    if whole && s.depth == 0 {
         let level = s.level;
         let sort = s.sort;
         let fault = s.fault;
@@ -273,17 +269,9 @@ fn finished(length: usize, s: State) -> State
 }
 
 // One token, or the end of the text.
-fn advanced(
-    text: &[u8],
-    list: &[u8],
-    heads: &[u16],
-    nexts: &[u16],
-    starts: &[usize],
-    s: State,
-    window: &mut [usize],
-) -> State
-    requires { Indexed list.now heads.now nexts.now starts.now × Standing text.now list.now window.old s }
-    ensures { Advanced text.now list.now window.new s.count result }
+fn advanced(text: &[u8], names: &Names, s: State, window: &mut [usize]) -> State
+    requires { Standing text.now names.now.list.now window.old s }
+    ensures { Advanced text.now names.now.list.now window.new s.count result }
 {
     let t = look(text, s.at, s.due, s.mode);
     let kind = t.kind;
@@ -297,7 +285,7 @@ fn advanced(
         return refused(s, begin);
     }
     if act < 18 {
-        let own = own_fault(text, list, heads, nexts, starts, kind, begin, t.end);
+        let own = own_fault(text, names, kind, begin, t.end);
         if act < 15 {
             return went(text, s, t, own);
         }
@@ -309,16 +297,9 @@ fn advanced(
 }
 
 // What is found in a text: 23 with the byte at which it is refused, or its lowest fault, if it has one.
-pub fn survey_text(
-    text: &[u8],
-    list: &[u8],
-    heads: &[u16],
-    nexts: &[u16],
-    starts: &[usize],
-    window: &mut [usize],
-) -> Option<Fault>
-    requires { Indexed list.now heads.now nexts.now starts.now × (length window.old ≡ 4 * span) }
-    ensures { result ≡ found (form_of text.now) text.now list.now }
+pub fn survey_text(text: &[u8], names: &Names, window: &mut [usize]) -> Option<Fault>
+    requires { length window.old ≡ 4 * span }
+    ensures { result ≡ found (form_of text.now) text.now names.now.list.now }
 {
     let mut s = State {
         count: 0,
@@ -334,7 +315,7 @@ pub fn survey_text(
         ended: false,
     };
     while !s.ended {
-        s = advanced(text, list, heads, nexts, starts, s, window);
+        s = advanced(text, names, s, window);
     }
     s.fault
 }

@@ -2,7 +2,6 @@
 ghost use Rattle.std.specs.Prelude.{◌≡◌, ◌&&◌, cond, ◌*◌, ◌<◌, leb, ltb, length};
 ghost use Rattle.survey.specs.Window.{span, bit, packed, level_at, stored};
 
-use basics::{at_most, below, both};
 use text::Level;
 
 // The most levels of a window.
@@ -15,6 +14,7 @@ fn bit(b: bool) -> usize
 }
 
 // All of a level but its bytes in one number.
+#[tactic(auto, using(crate::proofs::Stored::bit_small), unfolding(crate::specs::Window::packed))]
 fn packed(l: Level) -> usize
     requires { (l.kind < 10) × (l.rank < 3) }
     ensures { result ≡ packed l }
@@ -23,6 +23,7 @@ fn packed(l: Level) -> usize
     24 * l.kind + (12 * bit(l.andor) + (4 * l.rank + flags))
 }
 
+#[tactic(auto, unfolding(crate::specs::Window::stored))]
 pub fn store(window: &mut [usize], i: usize, l: Level)
     requires { (length window.old ≡ 4 * span) × (l.kind < 10) × (l.rank < 3) }
     ensures { window.new ≡ stored window.old i l }
@@ -34,6 +35,7 @@ pub fn store(window: &mut [usize], i: usize, l: Level)
     window[slot + 3] = l.m;
 }
 
+#[tactic(auto, unfolding(crate::specs::Window::level_at, crate::specs::Window::unpacked))]
 pub fn load(window: &[usize], i: usize) -> Level
     requires { length window.now ≡ 4 * span }
     ensures { result ≡ level_at window.now i }
@@ -57,7 +59,7 @@ pub fn keep(window: &mut [usize], i: usize, lo: usize, hi: usize, l: Level)
     requires { (length window.old ≡ 4 * span) × (l.kind < 10) × (l.rank < 3) }
     ensures { window.new ≡ cond (leb lo i && ltb i hi) (stored window.old i l) window.old }
 {
-    if both(at_most(lo, i), below(i, hi)) {
+    if lo <= i && i < hi {
         store(window, i, l);
     }
 }
@@ -67,7 +69,7 @@ pub fn recall(window: &[usize], i: usize, lo: usize, hi: usize, other: Level) ->
     requires { length window.now ≡ 4 * span }
     ensures { result ≡ cond (leb lo i && ltb i hi) (level_at window.now i) other }
 {
-    if both(at_most(lo, i), below(i, hi)) {
+    if lo <= i && i < hi {
         return load(window, i);
     }
     other

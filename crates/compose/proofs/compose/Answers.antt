@@ -20,4 +20,4 @@ returns c =
     let passed = c.pass_over-passed.ensures in
     let go_on = c.if-passed.false in
     let light = passed.light go_on in
-    composes_done c.args.text.now c.args.list.now _ _ _ _ _ _ _ (passed.read go_on) c.settle_frames-settled.ensures (passed.few go_on) (omega (arith, light)) (omega (arith, c.requires.2))
+    composes_done c.args.text.now c.args.names.now.list.now _ _ _ _ _ _ _ (passed.read go_on) c.settle_frames-settled.ensures (passed.few go_on) (omega (arith, light)) (omega (arith, c.requires.1))

@@ -1,34 +1,34 @@
--- `reader::hand_over` meets its contract: a refusal leaves both outputs as they were; on 0 both are copied.
--- Assumes nothing.
-use mathlib.Core.Path.{sym, ◌∙◌, ap}
-use native.Mathlib.Omega.{arith}
+-- The answers of `reader::hand_over`: a refusal leaves both outputs as they were; else both are copied.
+use Rattle.std.proofs.Common.{sym, ap, refl, arith}
 use lib.Seq.{length-take-le}
+use Rattle.std.proofs.lemmas.Result.{err_from_is_err_and}
 use Rattle.meaning.specs.declared.Answer.{Answer}
 use Rattle.reader.proofs.Handed.{room_enough, hands_refused, hands_written}
 use Rattle.reader.proofs.hand_over.Goals as goal
 
-pub returns-then-answer-ne0 : goal.returns-then-answer-ne0
-returns-then-answer-ne0 c = hands_refused _ _ _ _ _ _ _ _ _ c.limits-answer.ensures.0 c.limits-answer.ensures.1 c.if-answer-ne0.true
+pub returns-in_err-written : goal.returns-in_err-written
+returns-in_err-written c =
+    let told = c.in_err-written.ensures in
+    let p = err_from_is_err_and c.from_residual.result c.from_residual.ensures.1 in
+    rw (p.1, p.2) (hands_refused _ _ _ _ _ _ _ _ _ told.0 told.1 (λ z. omega (arith, told.2, z)))
 
 pub slice_bounds-copy-end : goal.slice_bounds-copy-end
 slice_bounds-copy-end c = sym (length-take-le _ _ (omega arith))
 
 pub copy-requires : goal.copy-requires
 copy-requires c =
-    let e = c.limits-answer.ensures in
-    let z = room_enough _ _ _ _ _ (ap (λ (a : Answer). a.number) (sym e.0) ∙ c.if-answer-ne0.false) in
-    rw (length-take-le _ c.args.drafted.now c.requires.2) z.0
+    let room = room_enough _ _ _ _ _ (ap (λ (a : Answer). a.number) (sym c.in_ok-written.ensures.0)) in
+    rw (length-take-le _ c.args.drafted.now c.requires.2) room.0
 
 pub slice_bounds-copy-end-2 : goal.slice_bounds-copy-end-2
 slice_bounds-copy-end-2 c = sym (length-take-le _ _ (omega arith))
 
 pub copy-requires-2 : goal.copy-requires-2
 copy-requires-2 c =
-    let e = c.limits-answer.ensures in
-    let z = room_enough _ _ _ _ _ (ap (λ (a : Answer). a.number) (sym e.0) ∙ c.if-answer-ne0.false) in
-    rw (length-take-le _ c.args.values.now c.requires.3) z.1
+    let room = room_enough _ _ _ _ _ (ap (λ (a : Answer). a.number) (sym c.in_ok-written.ensures.0)) in
+    rw (length-take-le _ c.args.values.now c.requires.3) room.1
 
 pub returns : goal.returns
 returns c =
-    let e = c.limits-answer.ensures in
-    hands_written _ _ _ _ _ _ _ _ _ e.0 e.1 c.if-answer-ne0.false c.copy.ensures c.copy-2.ensures
+    let told = c.in_ok-written.ensures in
+    hands_written _ _ _ _ _ _ _ _ _ told.0 told.1 refl c.copy.ensures c.copy-2.ensures

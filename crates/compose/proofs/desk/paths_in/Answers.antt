@@ -1,40 +1,38 @@
--- The answers of `compose::desk::paths_in`: what its code leaves to show, by the invariants beside this file. Assumes nothing.
-use Prim.Native.Nat.{ℕ}
-use native.Mathlib.Omega.{arith}
-use mathlib.Core.Path.{◌≡◌, sym, ◌∙◌, ap}
-use Rattle.text.specs.Composing.{paths_in}
+-- The answers of `compose::desk::paths_in`: one frame more, which is a path's or not.
+use Rattle.std.proofs.Common.{◌≡◌, ℕ, sym, ◌∙◌, ap, ◌*◌, get_or, true, false, arith}
+use borrow.Author.Tests.{eq-eqb, ne_eqb}
+use Rattle.text.specs.Composing.{paths_in, is_path_op}
 use Rattle.compose.specs.Standing.{frames_of}
 use Rattle.compose.proofs.Frames.{paths_none, paths_one, paths_other}
 use Rattle.compose.proofs.desk.paths_in.Goals as goal
-use Rattle.compose.proofs.desk.paths_in.Goals.{then-either, else-either}
+use Rattle.compose.proofs.desk.paths_in.Goals.{then-op-eq22, else-op-eq22+else-op-eq23, then-op-eq22-via-then-op-eq22, then-op-eq22-via-else-op-eq22+then-op-eq23}
 
 pub loop-i-init : goal.loop-i-init
-loop-i-init c = (omega arith, omega arith, λ opens. paths_none c.args.ops.now opens)
-
-pub overflow_mul-op : goal.overflow_mul-op
-overflow_mul-op c = omega arith
+loop-i-init c = (omega arith, λ opens. paths_none c.args.ops.now opens)
 
 pub bounds-ops-i : goal.bounds-ops-i
 bounds-ops-i c = omega arith
 
-pub overflow_add-count : goal.overflow_add-count
-overflow_add-count c = omega arith
-
-pub overflow_add-i : goal.overflow_add-i
-overflow_add-i c = omega arith
-
-pub loop-i-smaller : goal.loop-i-smaller
-loop-i-smaller c = omega arith
-
 pub loop-i-preserved : goal.loop-i-preserved
 loop-i-preserved c =
-    let told = c.either.ensures in
-    let inv = c.loop-i.invariant.2 in
+    let inv = c.loop-i.invariant.1 in
     let ops = c.args.ops.now in
-    elim c.if-either.branch [ then-either w ↦ (omega arith, omega arith, λ opens. w.count-is ∙ paths_one ops opens _ _ (inv opens) (sym told ∙ w.if-either.true)) | else-either w ↦ (omega arith, omega arith, λ opens. w.count-is ∙ paths_other ops opens _ _ (inv opens) (sym told ∙ w.if-either.false)) ]
+    elim c.if-op-eq22.branch [
+      then-op-eq22 w ↦
+        let path : is_path_op (get_or ops (4 * c.loop-i.i) 0) ≡ true =
+        elim w.then-op-eq22.branch [
+          then-op-eq22-via-then-op-eq22 v ↦ rw (eq-eqb _ 22 v.if-op-eq22.true)
+        | then-op-eq22-via-else-op-eq22+then-op-eq23 v ↦ rw (ne_eqb _ 22 v.if-op-eq22.false, eq-eqb _ 23 v.if-op-eq23.true)
+        ] in
+        (omega arith, λ opens. w.count-is ∙ paths_one ops opens _ _ (inv opens) path)
+    | else-op-eq22+else-op-eq23 w ↦
+        let other : is_path_op (get_or ops (4 * c.loop-i.i) 0) ≡ false =
+        rw (ne_eqb _ 22 w.if-op-eq22.false, ne_eqb _ 23 w.if-op-eq23.false) in
+        (omega arith, λ opens. w.count-is ∙ paths_other ops opens _ _ (inv opens) other)
+    ]
 
 pub returns : goal.returns
 returns c =
     let e : c.loop-i.i ≡ c.args.height = omega arith in
     let ops = c.args.ops.now in
-    (λ opens. c.loop-i.invariant.2 opens ∙ ap (λ (n : ℕ). paths_in (frames_of ops opens n)) e, omega arith)
+    (λ opens. c.loop-i.invariant.1 opens ∙ ap (λ (n : ℕ). paths_in (frames_of ops opens n)) e, omega arith)

@@ -12,16 +12,16 @@ use Rattle.compose.proofs.pass.pass_over.Goals as goal
 
 pub loop-next-init : goal.loop-next-init
 loop-next-init c = passing_start _ _ _ _ _ _ _ _ c.start-state.ensures
-    c.requires.3
-    c.requires.4
     c.requires.2
-    c.requires.5 c.next_token-next.ensures
+    c.requires.3
+    c.requires.1
+    c.requires.4 c.next_token-next.ensures
 
 pub read_next-state-requires : goal.read_next-state-requires
 read_next-state-requires c =
     let p = c.loop-next.invariant in
     let h = c.loop-next-test.true in
-    (c.requires.0, next_spelled p h c.requires.1, h, p.known, next_roomy p h, omega (arith, p.few, p.light), p.values_room, next_countable p h (omega arith))
+    (next_spelled p h c.requires.0, h, p.known, next_roomy p h, omega (arith, p.few, p.light), p.values_room, next_countable p h (omega arith))
 
 pub is_full-requires : goal.is_full-requires
 is_full-requires c =
@@ -32,19 +32,19 @@ is_full-requires c =
 
 pub shape_of-rows-then-is_full : goal.shape_of-rows-then-is_full
 shape_of-rows-then-is_full c = omega
-    (arith, c.loop-next.invariant.rows_room, c.requires.2)
+    (arith, c.loop-next.invariant.rows_room, c.requires.1)
 
 pub shape_of-ops-then-is_full : goal.shape_of-ops-then-is_full
 shape_of-ops-then-is_full c = omega
-    (arith, c.loop-next.invariant.ops_room, ap length c.requires.3, length-replicate {A = ℕ} op_room 0)
+    (arith, c.loop-next.invariant.ops_room, ap length c.requires.2, length-replicate {A = ℕ} op_room 0)
 
 pub shape_of-opens-then-is_full : goal.shape_of-opens-then-is_full
 shape_of-opens-then-is_full c = omega
-    (arith, c.loop-next.invariant.opens_room, ap length c.requires.4, length-replicate {A = ℕ} open_room 0)
+    (arith, c.loop-next.invariant.opens_room, ap length c.requires.3, length-replicate {A = ℕ} open_room 0)
 
 pub shape_of-values-then-is_full : goal.shape_of-values-then-is_full
 shape_of-values-then-is_full c = omega
-    (arith, c.loop-next.invariant.values_room, c.requires.5)
+    (arith, c.loop-next.invariant.values_room, c.requires.4)
 
 pub returns-then-is_full : goal.returns-then-is_full
 returns-then-is_full c =
@@ -89,7 +89,7 @@ pub shape_of-rows : goal.shape_of-rows
 shape_of-rows c = omega (
   arith,
   c.loop-next.invariant.rows_room,
-  c.requires.2,
+  c.requires.1,
 )
 
 pub shape_of-ops : goal.shape_of-ops
@@ -97,7 +97,7 @@ shape_of-ops c = omega (
   arith,
   c.loop-next.invariant.ops_room,
   ap length
-      c.requires.3,
+      c.requires.2,
   length-replicate {A = ℕ} op_room 0,
 )
 
@@ -106,7 +106,7 @@ shape_of-opens c = omega (
   arith,
   c.loop-next.invariant.opens_room,
   ap length
-      c.requires.4,
+      c.requires.3,
   length-replicate {A = ℕ} open_room 0,
 )
 
@@ -114,7 +114,7 @@ pub shape_of-values : goal.shape_of-values
 shape_of-values c = omega (
   arith,
   c.loop-next.invariant.values_room,
-  c.requires.5,
+  c.requires.4,
 )
 
 pub returns : goal.returns

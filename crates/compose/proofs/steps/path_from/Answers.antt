@@ -7,13 +7,13 @@ use Rattle.compose.proofs.steps.path_from.Goals as goal
 pub returns-then-is_beginning : goal.returns-then-is_beginning
 returns-then-is_beginning c =
     let g = c.args in
-    rw c.larger-deepest.ensures (
+    rw c.max.ensures (
       refl,
       λ rows values. path_begins g.state rows g.ops.now g.opens.now values g.op _ _
           (sym c.is_beginning.ensures
           ∙ c.if-is_beginning.true)
           (c.paths_in-paths.ensures.0 g.opens.now)
-          (c.push_frame-begun.ensures rows),
+          (c.push_frame-bench.ensures rows),
     )
 
 pub returns : goal.returns

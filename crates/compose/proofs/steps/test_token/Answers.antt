@@ -9,5 +9,5 @@ returns c =
     let g = c.args in (
       refl,
       λ rows values. tested g.state rows g.ops.now g.opens.now values g.mode g.test _
-          (c.push_frame-pushed.ensures rows),
+          (c.push_frame-bench.ensures rows),
     )

@@ -7,10 +7,9 @@ use Rattle.compose.proofs.words.word_number.Goals as goal
 
 pub name_number-requires : goal.name_number-requires
 name_number-requires c = (
-  c.requires.0,
-  c.requires.1.ordered,
-  c.requires.1.within,
-  λ s. (c.requires.1.test_ends c.in-9.is s).1,
+  c.requires.ordered,
+  c.requires.within,
+  λ s. (c.requires.test_ends c.in-9.is s).1,
 )
 
 pub overflow_cast-result : goal.overflow_cast-result
@@ -51,51 +50,51 @@ overflow_cast-result-in-13 c = record {
 
 pub returns-in-6 : goal.returns-in-6
 returns-in-6 c = λ i p. number_at_lem c.args.text.now
-    c.args.list.now i c.args.begin
+    c.args.names.now.list.now i c.args.begin
     p c.args.kind c.in-6.is
 
 pub returns-in-9 : goal.returns-in-9
 returns-in-9 c = λ i p. number_name c.args.text.now
-    c.args.list.now i
+    c.args.names.now.list.now i
     c.args.begin p
     c.args.kind _
     c.args.end c.in-9.is
-    (λ s. (c.requires.1.test_ends c.in-9.is s).0)
+    (λ s. (c.requires.test_ends c.in-9.is s).0)
     c.name_number.ensures
 
 pub returns-in-10 : goal.returns-in-10
 returns-in-10 c = λ i p. number_type c.args.text.now
-    c.args.list.now i
+    c.args.names.now.list.now i
     c.args.begin p
     c.args.kind _
     c.args.end c.in-10.is
-    (c.requires.1.type_ends c.in-10.is) c.type_number.ensures
+    (c.requires.type_ends c.in-10.is) c.type_number.ensures
 
 pub returns-in-11 : goal.returns-in-11
 returns-in-11 c = λ i p. number_instruction c.args.text.now
-    c.args.list.now i c.args.begin
+    c.args.names.now.list.now i c.args.begin
     p c.args.kind c.in-11.is
 
 pub returns-in-12 : goal.returns-in-12
 returns-in-12 c = λ i p. number_call c.args.text.now
-    c.args.list.now i
+    c.args.names.now.list.now i
     c.args.begin p
     c.args.kind _
     c.args.end c.in-12.is
-    (c.requires.1.call_ends c.in-12.is) c.function_number.ensures
+    (c.requires.call_ends c.in-12.is) c.function_number.ensures
 
 pub returns-in-13 : goal.returns-in-13
 returns-in-13 c = λ i p. number_axis c.args.text.now
-    c.args.list.now i
+    c.args.names.now.list.now i
     c.args.begin p
     c.args.kind _
     c.args.end c.in-13.is
-    (c.requires.1.axis_ends c.in-13.is) c.axis_number.ensures
+    (c.requires.axis_ends c.in-13.is) c.axis_number.ensures
 
 pub returns-in_default : goal.returns-in_default
 returns-in_default c =
     let rest = c.in_default.in_default-own.rest in
     λ i p. number_none c.args.text.now
-    c.args.list.now i c.args.begin
+    c.args.names.now.list.now i c.args.begin
     p c.args.kind rest.0.0.0.0.0.1 rest.0.0.0.0.1 rest.0.0.0.1
     rest.0.0.1 rest.0.1 rest.1

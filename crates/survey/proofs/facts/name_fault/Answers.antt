@@ -1,6 +1,6 @@
 -- `survey::facts::name_fault` meets its contract: each answer by the tests that led there; a name without a prefix is the whole token.
 -- Assumes nothing.
-use mathlib.Core.Path.{refl, sym, ◌∙◌}
+use Rattle.std.proofs.Common.{refl, sym, ap, ◌∙◌, not, is_some}
 use Rattle.levels.specs.Levels.{own_of}
 use Rattle.text.specs.Limited.{source}
 use Rattle.survey.proofs.Words.{reads_within, name_word, nameless, has_name}
@@ -14,19 +14,23 @@ pub returns-then-has_prefix : goal.returns-then-has_prefix
 unfolding own_of source
 returns-then-has_prefix c = rw (sym c.is_star.ensures ∙ c.if-is_star.false, ← c.has_prefix.ensures, c.if-has_prefix.true)
 
-pub number_of-requires : goal.number_of-requires
-number_of-requires c =
-    let p = c.requires in
-    (p.0, (reads_within p.1).0, (reads_within p.1).1)
+pub slice_bounds-number_of-count : goal.slice_bounds-number_of-count
+slice_bounds-number_of-count c = (reads_within c.requires).0
 
-pub returns-then-number_of-eq0 : goal.returns-then-number_of-eq0
+pub slice_bounds-number_of-start : goal.slice_bounds-number_of-start
+slice_bounds-number_of-start c = (reads_within c.requires).0
+
+pub slice_bounds-number_of-end : goal.slice_bounds-number_of-end
+slice_bounds-number_of-end c = (reads_within c.requires).1
+
+pub returns-then-is_none : goal.returns-then-is_none
 unfolding own_of source
-returns-then-number_of-eq0 c =
+returns-then-is_none c =
     rw (
       sym c.is_star.ensures ∙ c.if-is_star.false,
       sym c.has_prefix.ensures ∙ c.if-has_prefix.false,
-      ← name_word c.requires.1 refl (sym c.is_star.ensures ∙ c.if-is_star.false) (sym c.has_prefix.ensures ∙ c.if-has_prefix.false),
-      nameless _ _ (sym c.number_of.ensures ∙ c.if-number_of-eq0.true),
+      ← name_word c.requires refl (sym c.is_star.ensures ∙ c.if-is_star.false) (sym c.has_prefix.ensures ∙ c.if-has_prefix.false),
+      nameless _ _ (ap is_some (sym c.number_of.ensures) ∙ (c.is_none.ensures ∙ ap not c.if-is_none.true)),
     )
 
 pub returns : goal.returns
@@ -35,6 +39,6 @@ returns c =
     rw (
       sym c.is_star.ensures ∙ c.if-is_star.false,
       sym c.has_prefix.ensures ∙ c.if-has_prefix.false,
-      ← name_word c.requires.1 refl (sym c.is_star.ensures ∙ c.if-is_star.false) (sym c.has_prefix.ensures ∙ c.if-has_prefix.false),
-      has_name _ _ (λ z. c.if-number_of-eq0.false (c.number_of.ensures ∙ z)),
+      ← name_word c.requires refl (sym c.is_star.ensures ∙ c.if-is_star.false) (sym c.has_prefix.ensures ∙ c.if-has_prefix.false),
+      has_name _ _ (ap is_some (sym c.number_of.ensures) ∙ (c.is_none.ensures ∙ ap not c.if-is_none.false)),
     )

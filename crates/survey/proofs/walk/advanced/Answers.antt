@@ -11,14 +11,14 @@ use Rattle.survey.proofs.Advancing.{advanced_ends, advanced_refused, seen_furthe
 use Rattle.survey.proofs.walk.advanced.Goals as goal
 
 pub look-t-requires : goal.look-t-requires
-look-t-requires c = let h = c.requires.1 in (h.cut.within, (left_of h).mode)
+look-t-requires c = let h = c.requires in (h.cut.within, (left_of h).mode)
 
 pub finished-requires : goal.finished-requires
 finished-requires c = tt
 
 pub returns-then-kind-eq34 : goal.returns-then-kind-eq34
 returns-then-kind-eq34 c =
-    let h = c.requires.1 in
+    let h = c.requires in
     let v = c.look-t.ensures in
     advanced_ends h v c.finished.result c.if-kind-eq34.true c.finished.ensures
 
@@ -30,28 +30,28 @@ refused-requires c = tt
 
 pub returns-then-not-is_taken : goal.returns-then-not-is_taken
 returns-then-not-is_taken c =
-    let h = c.requires.1 in
+    let h = c.requires in
     let v = c.look-t.ensures in
     advanced_refused h v c.refused.result c.if-kind-eq34.false
     (sym c.is_taken.ensures ∙ c.if-not-is_taken.true) c.refused.ensures
 
 pub own_fault-own-requires : goal.own_fault-own-requires
 own_fault-own-requires c =
-    let h = c.requires.1 in
+    let h = c.requires in
     let v = c.look-t.ensures in
     let on = sym c.is_taken.ensures ∙ c.if-not-is_taken.false in
-    (c.requires.0, seen_reads h v on)
+    seen_reads h v on
 
 pub went-requires : goal.went-requires
 went-requires c =
-    let h = c.requires.1 in
+    let h = c.requires in
     let v = c.look-t.ensures in
     let on = sym c.is_taken.ensures ∙ c.if-not-is_taken.false in
     (seen_reads h v on, seen_further h v on, taken_some _ _ on)
 
 pub returns-then-act-lt15 : goal.returns-then-act-lt15
 returns-then-act-lt15 c =
-    let h = c.requires.1 in
+    let h = c.requires in
     let v = c.look-t.ensures in
     let on = sym c.is_taken.ensures ∙ c.if-not-is_taken.false in
     advanced_goes h v on c.went.result c.own_fault-own.result c.own_fault-own.ensures c.if-act-lt15.true
@@ -59,7 +59,7 @@ returns-then-act-lt15 c =
 
 pub entered-requires : goal.entered-requires
 entered-requires c =
-    let h = c.requires.1 in
+    let h = c.requires in
     let v = c.look-t.ensures in
     let on = sym c.is_taken.ensures ∙ c.if-not-is_taken.false in
     (seen_opens h v on, h.size)
@@ -69,7 +69,7 @@ shape_of-window-then-act-lt18 c = ap length c.entered.ensures.1 ∙ stored_lengt
 
 pub returns-then-act-lt18 : goal.returns-then-act-lt18
 returns-then-act-lt18 c =
-    let h = c.requires.1 in
+    let h = c.requires in
     let v = c.look-t.ensures in
     let on = sym c.is_taken.ensures ∙ c.if-not-is_taken.false in
     let own = c.own_fault-own in
@@ -78,7 +78,7 @@ returns-then-act-lt18 c =
 
 pub ready-low-requires : goal.ready-low-requires
 ready-low-requires c =
-    let h = c.requires.1 in
+    let h = c.requires in
     let v = c.look-t.ensures in
     let on = sym c.is_taken.ensures ∙ c.if-not-is_taken.false in
     seen_closes h v on c.if-act-lt18.false
@@ -91,7 +91,7 @@ load-outer-requires c = c.ready-low.ensures.size
 
 pub closed-requires : goal.closed-requires
 closed-requires c =
-    let h = c.requires.1 in
+    let h = c.requires in
     let v = c.look-t.ensures in
     let on = sym c.is_taken.ensures ∙ c.if-not-is_taken.false in (
       seen_bracketed h v on c.if-act-lt18.false,
@@ -102,11 +102,11 @@ closed-requires c =
 pub shape_of-window : goal.shape_of-window
 shape_of-window c =
     c.ready-low.ensures.size
-    ∙ sym c.requires.1.size
+    ∙ sym c.requires.size
 
 pub returns : goal.returns
 returns c =
-    let h = c.requires.1 in
+    let h = c.requires in
     let v = c.look-t.ensures in
     let on = sym c.is_taken.ensures ∙ c.if-not-is_taken.false in
     let ready = c.ready-low in

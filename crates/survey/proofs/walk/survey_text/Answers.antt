@@ -11,12 +11,12 @@ pub fresh-requires : goal.fresh-requires
 fresh-requires c = tt
 
 pub loop-s-init : goal.loop-s-init
-loop-s-init c = surveyed_start _ _ _ c.requires.1 _ (cc)
+loop-s-init c = surveyed_start _ _ _ c.requires _ (cc)
 
 pub advanced-s-requires : goal.advanced-s-requires
 advanced-s-requires c =
     let more = not_so _ c.loop-s-test.true in
-    (c.requires.0, c.loop-s.invariant.goes_on more)
+    c.loop-s.invariant.goes_on more
 
 pub loop-s-smaller : goal.loop-s-smaller
 loop-s-smaller c =
@@ -29,7 +29,7 @@ loop-s-preserved c = c.advanced-s.ensures.surveyed
 pub shape_of-window : goal.shape_of-window
 shape_of-window c =
     c.loop-s.invariant.size
-    ∙ sym c.requires.1
+    ∙ sym c.requires
 
 pub returns : goal.returns
 returns c = c.loop-s.invariant.ends (is_so _ c.loop-s-test.false)
