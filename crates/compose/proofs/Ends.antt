@@ -1,5 +1,6 @@
 -- Where tokens end: a name's token ends where the name does, unless it has a prefix, and a number's where the number does.
 -- Assumes nothing.
+use Rattle.text.specs.declared.Run.TheVariants.{Spaces, NameBytes, Until}
 use Prim.Native.Nat.{ℕ, ◌+◌}
 use native.Mathlib.Omega.{arith}
 use mathlib.Core.Path.{◌≡◌, refl, sym, ◌∙◌}
@@ -85,7 +86,7 @@ module _ (text : List ℕ) (p : ℕ) where
       (λ _ e. omega arith))
       (λ _ e. omega arith)))
 
-  prefixed : star_at text (run_end 2 text p) ≡ true → has_prefix text p ≡ true
+  prefixed : star_at text (run_end NameBytes text p) ≡ true → has_prefix text p ≡ true
   unfolding has_prefix
   prefixed s = rw s
 
@@ -96,17 +97,17 @@ module _ (text : List ℕ) (p : ℕ) where
   named_ends : (due : Bool) → Ends text p (named text p due)
   unfolding named code is_word
   named_ends due =
-      choice (Ends text p) (star_at text (run_end 2 text p))
+      choice (Ends text p) (star_at text (run_end NameBytes text p))
       (λ s. starred due s)
       (λ _. record {
         word_ends = λ _. refl;
         test_ends = λ _ _ _. refl;
         number_ends = λ e. absurd
-            (name_no_number (name_end text p) (run_end 0 text (name_end text p)) due e);
+            (name_no_number (name_end text p) (run_end Spaces text (name_end text p)) due e);
       })
     where
-      starred : (due : Bool) → star_at text (run_end 2 text p) ≡ true → Ends text p
-          (token (cond due (code unknown) (code NameTest)) (run_end 2 text p + 2))
+      starred : (due : Bool) → star_at text (run_end NameBytes text p) ≡ true → Ends text p
+          (token (cond due (code unknown) (code NameTest)) (run_end NameBytes text p + 2))
       starred true s = record {
         word_ends = λ e. absurd (true≢false (sym e));
         test_ends = λ e _ _. absurd (omega arith);
@@ -155,6 +156,6 @@ module _ (text : List ℕ) (p : ℕ) where
       (λ _. record { word_ends = λ e. absurd (true≢false (sym e)); test_ends = λ e _ _. absurd (omega arith); number_ends = λ _. refl })
       (λ _.
       choice (Ends text p) (quote_at text p)
-      (λ _. choice (Ends text p) (ltb (run_end (byte text p) text (p + 1)) (length text)) (λ _. others _ refl) (λ _. others _ refl)) (λ _.
+      (λ _. choice (Ends text p) (ltb (run_end (Until (byte text p)) text (p + 1)) (length text)) (λ _. others _ refl) (λ _. others _ refl)) (λ _.
       choice (Ends text p) (letter_at text p) (λ _. named_ends due) (λ _.
       choice (Ends text p) (variable_at text p) (λ _. others _ refl) (λ _. punctuation_ends due))))

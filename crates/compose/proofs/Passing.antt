@@ -1,5 +1,6 @@
 -- The pass over the tokens: behind the first k tokens the slices hold the machine's draft.
 -- Assumes nothing.
+use Rattle.text.specs.declared.Run.TheVariants.{Spaces}
 use Prim.Native.Nat.{ℕ, zero, suc, ◌+◌, ◌*◌, ◌<◌, ◌≤◌}
 use native.Mathlib.Omega.{arith}
 use mathlib.Core.Path.{◌≡◌, refl, sym, ◌∙◌, ap, subst}
@@ -83,7 +84,7 @@ module _ {text : List ℕ} {at : ℕ} {due : Bool} {r : Next} (f : Found text at
   unfolding Tokens.Read
   found_takes h = f.read.2 h
 
-  pub found_end : 34 ≤ r.kind → length text ≤ run_end 0 text at
+  pub found_end : 34 ≤ r.kind → length text ≤ run_end Spaces text at
   unfolding Tokens.Read
   found_end h =
       ⊎_elim (λ l. let told = f.read.0 l in absurd (omega (arith, told.2))) (λ l. omega (arith, l, f.begins)) (lt_or_ge r.begin (length text))
@@ -161,7 +162,7 @@ module _ {text list rows ops opens : List ℕ} {values : List Float} {state : St
           length-take-le p.k (classes_of text) (omega (arith, classes_length text, p.cut.count)) in
           let inside = found_inside p.found (omega arith) in
           countable state rows ops opens values (source text list) (take p.k (classes_of text)) p.is_draft
-          (omega (arith, many, inside, p.passed, p.found.begins, run_behind 0 text p.at))
+          (omega (arith, many, inside, p.passed, p.found.begins, run_behind Spaces text p.at))
 
       -- one token more
       module _ {rows' ops' opens' : List ℕ} {values' : List Float} {r : State}
@@ -192,7 +193,7 @@ module _ {text list rows ops opens : List ℕ} {values : List Float} {state : St
               at = next.end;
               due = operator_due next.kind;
               cut = cut_next p.cut stands (λ z. omega arith);
-              passed = omega (arith, takes.0, p.passed, p.found.begins, run_behind 0 text p.at);
+              passed = omega (arith, takes.0, p.passed, p.found.begins, run_behind Spaces text p.at);
               found = subst (λ (t : Bool). Found text next.end t next') e f;
               is_draft = next_draft;
               few = omega (arith, w.few, p.few);

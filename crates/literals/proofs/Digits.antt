@@ -1,6 +1,8 @@
 -- Laws of the digits in a part of a text, byte by byte: how many there are, their whole number, those at the front; and of a literal's digits:
 -- how large their number is, and how many stand behind the point.
 -- Assumes nothing.
+use Rattle.text.specs.declared.Run.{Run}
+use Rattle.text.specs.declared.Run.TheVariants.{Digits}
 use Prim.Native.Nat.{ℕ, zero, suc, ◌+◌, ◌-◌, ◌*◌, ◌^◌, ◌<◌, ◌≤◌, min}
 use native.Mathlib.Nat.{pow-succ', pow-le-pow_right, add_assoc, mul_assoc, mul-le-mul_right}
 use native.Mathlib.Numerals.{add-one}
@@ -31,7 +33,7 @@ module _ (text : List ℕ) (i to : ℕ) (h : to ≤ i) where
   unfolding digits keep number_from
   number_none n = rw (part_none (drop i text) i to h)
 
-  pub front_none : many 1 (between text i to) ≡ 0
+  pub front_none : many Digits (between text i to) ≡ 0
   unfolding many
   front_none = rw (part_none (drop i text) i to h)
 
@@ -62,11 +64,11 @@ module _ (text : List ℕ) (i to : ℕ) (h : i < to) (k : to ≤ length text) wh
       by false = refl
 
   -- a digit is one more at the front, any other byte ends them
-  pub front_digit : is_digit (byte text i) ≡ true → many 1 (between text i to) ≡ many 1 (between text (i + 1) to) + 1
+  pub front_digit : is_digit (byte text i) ≡ true → many Digits (between text i to) ≡ many Digits (between text (i + 1) to) + 1
   unfolding many
   front_digit e = rw (part_first text 0 i to h k) (rw e (sym (add-one _)))
 
-  pub front_other : is_digit (byte text i) ≡ false → many 1 (between text i to) ≡ 0
+  pub front_other : is_digit (byte text i) ≡ false → many Digits (between text i to) ≡ 0
   unfolding many
   front_other e = rw (part_first text 0 i to h k) (rw e)
 
@@ -108,7 +110,7 @@ abbrev pub Few : List ℕ → Type 0
 Few w = digits_behind w ≤ length (digits w)
 
 -- a front of a list begins with as many, if it is long enough
-many_take : (q n : ℕ) (l : List ℕ) → many q (take n l) ≡ min n (many q l)
+many_take : (q : Run) (n : ℕ) (l : List ℕ) → many q (take n l) ≡ min n (many q l)
 unfolding many
 many_take q zero l = omega arith
 many_take q (suc n) [] = omega arith
@@ -119,13 +121,13 @@ many_take q (suc n) (b ∷ l) = by (passes q b) (many_take q n l)
     by false e = omega arith
 
 -- the digits at the front are digits
-front_digits : (l : List ℕ) → length (digits (take (many 1 l) l)) ≡ many 1 l
+front_digits : (l : List ℕ) → length (digits (take (many Digits l) l)) ≡ many Digits l
 unfolding digits keep many
 front_digits [] = refl
 front_digits (b ∷ l) = by (is_digit b) refl (front_digits l)
   where
-    by : (t : Bool) → is_digit b ≡ t → length (keep is_digit (take (many 1 l) l)) ≡ many 1 l
-        → length (keep is_digit (take (cond t (suc (many 1 l)) 0) (b ∷ l))) ≡ cond t (suc (many 1 l)) 0
+    by : (t : Bool) → is_digit b ≡ t → length (keep is_digit (take (many Digits l) l)) ≡ many Digits l
+        → length (keep is_digit (take (cond t (suc (many Digits l)) 0) (b ∷ l))) ≡ cond t (suc (many Digits l)) 0
     by true e more = rw e (ap suc more)
     by false e more = refl
 
@@ -135,23 +137,23 @@ digits_append v w = rw (keep_append is_digit v w) (length-append (keep is_digit 
 
 module _ (l : List ℕ) where
   -- digits alone have none behind a point
-  behind_none : digits_behind (take (many 1 l) l) ≡ 0
+  behind_none : digits_behind (take (many Digits l) l) ≡ 0
   unfolding digits_behind
-  behind_none = rw (many_take 1 (many 1 l) l, length-take (many 1 l) l) (omega arith)
+  behind_none = rw (many_take Digits (many Digits l) l, length-take (many Digits l) l) (omega arith)
 
   -- those behind one are among the digits
-  behind_among : Few (take (many 1 l + 1 + many 1 (drop (many 1 l + 1) l)) l)
+  behind_among : Few (take (many Digits l + 1 + many Digits (drop (many Digits l + 1) l)) l)
   unfolding digits_behind
   behind_among =
-      let a : ℕ = many 1 l in
+      let a : ℕ = many Digits l in
       let rest : List ℕ = drop (a + 1) l in
-      let all : length (digits (take (a + 1 + many 1 rest) l)) ≡ length (digits (take (a + 1) l)) + many 1 rest =
-      rw (take-add (a + 1) (many 1 rest) l) (digits_append (take (a + 1) l) (take (many 1 rest) rest) ∙ rw (front_digits rest)) in
-      rw (many_take 1 (a + 1 + many 1 rest) l, length-take (a + 1 + many 1 rest) l, all) (omega arith)
+      let all : length (digits (take (a + 1 + many Digits rest) l)) ≡ length (digits (take (a + 1) l)) + many Digits rest =
+      rw (take-add (a + 1) (many Digits rest) l) (digits_append (take (a + 1) l) (take (many Digits rest) rest) ∙ rw (front_digits rest)) in
+      rw (many_take Digits (a + 1 + many Digits rest) l, length-take (a + 1 + many Digits rest) l, all) (omega arith)
 
 -- how many they are, by where the digits at the front end
 pub behind_at : (text : List ℕ) (from to : ℕ) → to ≤ length text
-    → digits_behind (between text from to) ≡ to - from - (many 1 (between text from to) + 1)
+    → digits_behind (between text from to) ≡ to - from - (many Digits (between text from to) + 1)
 unfolding digits_behind
 behind_at text from to h = rw (part_length text from to h)
 
@@ -161,15 +163,15 @@ unfolding number_at number_end run_end
 behind_few text p = by (eqb (byte text (p + a)) 46)
   where
     a : ℕ
-    a = many 1 (drop p text)
+    a = many Digits (drop p text)
 
     last : ℕ
-    last = p + a + 1 + many 1 (drop (p + a + 1) text)
+    last = p + a + 1 + many Digits (drop (p + a + 1) text)
 
     by : (t : Bool) → Few (between text p (cond t last (p + a)))
     by true =
         let d : drop (a + 1) (drop p text) ≡ drop (p + a + 1) text = drop-drop (a + 1) p text ∙ rw (add_assoc p a 1) in
-        let e : last - p ≡ a + 1 + many 1 (drop (p + a + 1) text) = omega arith in
+        let e : last - p ≡ a + 1 + many Digits (drop (p + a + 1) text) = omega arith in
         rw (e, ← d) (behind_among (drop p text))
     by false =
         let e : p + a - p ≡ a = omega arith in

@@ -3,7 +3,8 @@
 use Prim.Native.Nat.{ℕ, suc, ◌+◌, ◌-◌, ◌<◌, ◌≤◌}
 use native.Mathlib.Numerals.{add-one}
 use native.Mathlib.Omega.{arith}
-use mathlib.Core.Path.{◌≡◌}
+use mathlib.Core.Path.{◌≡◌, ap, sym, ◌∙◌}
+use Rattle.std.proofs.lemmas.List.{drop-take}
 use mathlib.Core.List.{List, [], ◌∷◌}
 use lib.ListN.{length, get_or, take, drop, length-take, length-drop}
 use lib.Seq.{drop-cons}
@@ -22,3 +23,9 @@ part_none l i to h = let e : to - i ≡ 0 = omega arith in rw e
 
 pub part_length : {A : Type 0} (l : List A) (i to : ℕ) → to ≤ length l → length (take (to - i) (drop i l)) ≡ to - i
 part_length l i to h = simp (length-take, length-drop) (omega arith)
+
+-- a part of a text is what stands behind its first bytes in the front of the text that it ends
+pub part_of_front : (text : List ℕ) (from to : ℕ) → from ≤ to → drop from (take to text) ≡ take (to - from) (drop from text)
+part_of_front text from to h =
+    let e : from + (to - from) ≡ to = omega arith in
+    ap (λ (n : ℕ). drop from (take n text)) (sym e) ∙ drop-take from (to - from) text

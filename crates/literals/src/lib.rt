@@ -4,15 +4,13 @@
 ghost use Rattle.std.specs.Prelude.{◌≡◌, cond, ◌+◌, ◌-◌, ◌*◌, ◌^◌, ◌<◌, ◌≤◌, length, take};
 ghost use Rattle.decimal.specs.Decimal.{is_digit};
 ghost use Rattle.decimal.specs.Decimal as Decimal;
+ghost use Rattle.text.specs.declared.Run.TheVariants.{Digits};
 ghost use Rattle.text.specs.Tokens.{many, between, number_end};
 ghost use Rattle.text.specs.Limited.{number_at, digits, digits_behind, most_digits, value_at};
 ghost use Rattle.text.specs.Reading.{index_of};
 
-fn is_digit(b: u8) -> bool
-    ensures { result ≡ is_digit b }
-{
-    basics::both(b'0' <= b, b <= b'9')
-}
+use text::Run;
+use tokens::{is_digit, run_end};
 
 // How many digits stand in text[from..to].
 pub fn digit_count(text: &[u8], from: usize, to: usize) -> usize
@@ -20,12 +18,10 @@ pub fn digit_count(text: &[u8], from: usize, to: usize) -> usize
     ensures { result ≡ length (digits (between text.now from to)) }
 {
     let mut count = 0;
-    let mut i = from;
-    while i < to {
+    for i in from..to {
         if is_digit(text[i]) {
             count += 1;
         }
-        i += 1;
     }
     count
 }
@@ -48,10 +44,8 @@ fn whole(text: &[u8], from: usize, to: usize) -> u64
     ensures { (result ≡ Decimal.number (digits (between text.now from to))) × (result < 10 ^ most_digits) }
 {
     let mut n: u64 = 0;
-    let mut i = from;
-    while i < to {
+    for i in from..to {
         n = grown(n, text[i]);
-        i += 1;
     }
     n
 }
@@ -59,16 +53,9 @@ fn whole(text: &[u8], from: usize, to: usize) -> u64
 // Where the digits end that text[from..to] begins with.
 fn front_end(text: &[u8], from: usize, to: usize) -> usize
     requires { (from ≤ to) × (to ≤ length text.now) }
-    ensures { (result ≡ from + many 1 (between text.now from to)) × (result ≤ to) }
+    ensures { (result ≡ from + many Digits (between text.now from to)) × (result ≤ to) }
 {
-    let mut i = from;
-    while i < to {
-        if !is_digit(text[i]) {
-            return i;
-        }
-        i += 1;
-    }
-    i
+    run_end(Run::Digits, &text[..to], from)
 }
 
 // How many bytes stand behind the point of the literal text[from..to]: digits all of them.
@@ -81,17 +68,12 @@ fn behind_point(text: &[u8], from: usize, to: usize) -> usize
 }
 
 // At most 15 digits stand behind a point.
+#[tactic(auto, using(crate::proofs::Digits::power_within))]
 fn power_of_ten(n: usize) -> u64
     requires { n ≤ most_digits }
     ensures { (result ≡ 10 ^ n) × (result ≤ 10 ^ most_digits) }
 {
-    let mut power: u64 = 1;
-    let mut i = 0;
-    while i < n {
-        power *= 10;
-        i += 1;
-    }
-    power
+    10u64.pow(n as u32)
 }
 
 // The value of the number literal text[from..to]: the whole number of its digits, divided once by the power of ten. Both are doubles exactly,
@@ -111,12 +93,6 @@ pub fn index_of(values: &[f64], n: usize, x: f64) -> usize
     requires { n ≤ length values.now }
     ensures { result ≡ index_of (take n values.now) x }
 {
-    let mut i = 0;
-    while i < n {
-        if values[i] == x {
-            return i;
-        }
-        i += 1;
-    }
-    i
+    let seen = &values[..n];
+    seen.iter().position(|v| *v == x).unwrap_or(seen.len())
 }

@@ -1,6 +1,7 @@
 -- The survey advances: by a token that was seen, to where it stands behind it, or to its end with what is found. The laws are over what the
 -- code read, a law for each way on.
 -- Assumes nothing.
+use Rattle.text.specs.declared.Run.TheVariants.{Spaces}
 use Prim.Native.Nat.{ℕ, ◌+◌, ◌-◌, ◌*◌, ◌≤◌, ◌<◌}
 use mathlib.Core.Path.{◌≡◌, refl, sym, ◌∙◌, ap, subst⁻¹}
 use mathlib.Core.Bool.{Bool, true, false, not, cond, true≢false}
@@ -62,14 +63,14 @@ module _ (text list w : List ℕ) (k : ℕ) (r : State) where
 -- ---- nothing was read
 
 module _ (text list w : List ℕ) (n : length w ≡ 4 * span) where
-  first : byte_of text 0 ≡ run_end 0 text 0
+  first : byte_of text 0 ≡ run_end Spaces text 0
   first = byte_behind (cut_start text)
 
-  trails_first : trail_of text 0 ≡ trail 0 (fresh 0 (run_end 0 text 0)) [] 0
+  trails_first : trail_of text 0 ≡ trail 0 (fresh 0 (run_end Spaces text 0)) [] 0
   unfolding trail_of
   trails_first = ap (λ (p : ℕ). trail 0 (fresh 0 p) [] 0) first
 
-  standing_start : Standing text list w (at_start (run_end 0 text 0))
+  standing_start : Standing text list w (at_start (run_end Spaces text 0))
   unfolding Goes run is_stuck read_all urgency_of sound
   standing_start = record {
     cut = cut_start text;
@@ -87,7 +88,7 @@ module _ (text list w : List ℕ) (n : length w ≡ 4 * span) where
     sounds = tt;
   }
 
-  pub surveyed_start : (s : State) → s ≡ at_start (run_end 0 text 0) → Surveyed text list w s
+  pub surveyed_start : (s : State) → s ≡ at_start (run_end Spaces text 0) → Surveyed text list w s
   surveyed_start s e =
       subst⁻¹ (Surveyed text list w) e (record { goes_on = λ _. standing_start; ends = λ d. absurd (true≢false (sym d)); size = n })
 

@@ -1,5 +1,6 @@
 -- The end of the survey: where the text ends it is whole or refused there, and the fault that was found is the lowest of the text's.
 -- Assumes nothing.
+use Rattle.text.specs.declared.Run.TheVariants.{Spaces}
 use Prim.Native.Nat.{ℕ, suc, ◌≤◌, ◌<◌}
 use mathlib.Core.Path.{◌≡◌, refl, sym, ◌∙◌, ap, subst}
 use mathlib.Core.Bool.{Bool, true, false, ◌&&◌, ◌||◌, cond}
@@ -95,7 +96,7 @@ accepting_is m l (o ∷ ls) = rw (ne_eqb (suc (length ls)) 0 (λ e. omega arith)
 
 -- ---- the end of the text
 
-module _ {text list w : List ℕ} {s : State} (h : Standing text list w s) (last : length text ≤ run_end 0 text s.at) where
+module _ {text list w : List ℕ} {s : State} (h : Standing text list w s) (last : length text ≤ run_end Spaces text s.at) where
   all_read : take s.count (classes_of text) ≡ classes_of text
   all_read =
       let e : s.count ≡ length (classes_of text) = cut_end h.cut last ∙ sym (classes_length text) in

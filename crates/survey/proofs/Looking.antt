@@ -1,5 +1,6 @@
 -- What `survey::look::look` found, from what `tokens::next_token` did.
 -- Assumes nothing.
+use Rattle.text.specs.declared.Run.TheVariants.{Spaces}
 use Prim.Native.Nat.{ℕ, ◌<◌, ◌≤◌}
 use native.Mathlib.Omega.{arith}
 use mathlib.Core.Path.{◌≡◌, refl}
@@ -31,7 +32,7 @@ module _ (text : List ℕ) (at : ℕ) (due : Bool) (mode : ℕ) (r : Next) (f : 
 
   -- a token that can be read
   pub seen :
-      (behind act : ℕ) → r.kind < 33 → act ≡ act_of r.kind mode → behind ≡ run_end 0 text r.end
+      (behind act : ℕ) → r.kind < 33 → act ≡ act_of r.kind mode → behind ≡ run_end Spaces text r.end
       → Sees text at due mode (record { kind = r.kind; begin = r.begin; end = r.end; behind = behind; act = act })
   seen behind act h a b =
       let there : r.begin < length text = in_text (omega arith) in

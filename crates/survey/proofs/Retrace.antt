@@ -1,5 +1,6 @@
 -- Reading a text again, token by token: what the next token does to the trail, and that the window holds its levels behind it.
 -- Assumes nothing.
+use Rattle.text.specs.declared.Run.TheVariants.{Spaces}
 use Prim.Native.Nat.{ℕ, zero, suc, ◌+◌, ◌-◌, ◌*◌, ◌/◌, ◌%◌, ◌≤◌, ◌<◌}
 use native.Mathlib.Omega.{arith}
 use native.Mathlib.Numerals.{add-one}
@@ -37,9 +38,9 @@ few_from : (fuel : ℕ) (text : List ℕ) (i : ℕ) (due : Bool) → length (tok
 unfolding tokens_from
 few_from zero text i due = omega arith
 few_from (suc fuel) text i due =
-    let f = lexeme text (run_end 0 text i) due in
+    let f = lexeme text (run_end Spaces text i) due in
     let ih : length (tokens_from fuel text f.end (operator_due f.kind)) ≤ fuel = few_from fuel text f.end (operator_due f.kind) in
-    choice (λ (l : List Placed). length l ≤ suc fuel) (ltb (run_end 0 text i) (length text))
+    choice (λ (l : List Placed). length l ≤ suc fuel) (ltb (run_end Spaces text i) (length text))
     (λ _. choice (λ (l : List Placed). suc (length l) ≤ suc fuel) (eqb f.kind (code unknown)) (λ _. omega arith) (λ _. omega (arith, ih)))
     (λ _. omega arith)
 
@@ -48,15 +49,15 @@ unfolding tokens
 few_tokens text = few_from (length text) text 0 false
 
 -- the next token begins behind spaces, and behind the last one the text ends
-pub byte_behind : {text : List ℕ} {k i : ℕ} {due : Bool} → Cut text k i due → byte_of text k ≡ run_end 0 text i
+pub byte_behind : {text : List ℕ} {k i : ℕ} {due : Bool} → Cut text k i due → byte_of text k ≡ run_end Spaces text i
 byte_behind {text} {k} {i} {due} c =
     ⊎_elim
-    (λ (l : k < length (tokens text)). byte_place text [] k ∙ (raw_place text [] k l ∙ ap (run_end 0 text) (sym c.ends)))
+    (λ (l : k < length (tokens text)). byte_place text [] k ∙ (raw_place text [] k l ∙ ap (run_end Spaces text) (sym c.ends)))
     (λ (l : length (tokens text) ≤ k).
     let last : k ≡ length (tokens text) = omega (arith, c.count) in
-    let spaces : length text ≤ run_end 0 text i =
-    ⊎_elim (λ n. absurd (omega (arith, cut_count c (stands_there text i due n)))) (λ n. n) (lt_or_ge (run_end 0 text i) (length text)) in
-    ap (byte_of text) last ∙ (byte_end text ∙ omega (arith, spaces, run_within 0 text i c.within)))
+    let spaces : length text ≤ run_end Spaces text i =
+    ⊎_elim (λ n. absurd (omega (arith, cut_count c (stands_there text i due n)))) (λ n. n) (lt_or_ge (run_end Spaces text i) (length text)) in
+    ap (byte_of text) last ∙ (byte_end text ∙ omega (arith, spaces, run_within Spaces text i c.within)))
     (lt_or_ge k (length (tokens text)))
 
 trail_more :
@@ -403,11 +404,11 @@ module _ {text w : List ℕ} {lo hi : ℕ} {t : Trace} {s : Seen} (f : Follows t
 -- ---- the whole reading
 
 pub traced_start :
-    (text w : List ℕ) (lo hi : ℕ) (l : Level) → l ≡ fresh 0 (run_end 0 text 0) → length w ≡ 4 * span → hi ≤ lo + span
+    (text w : List ℕ) (lo hi : ℕ) (l : Level) → l ≡ fresh 0 (run_end Spaces text 0) → length w ≡ 4 * span → hi ≤ lo + span
     → Traced text w lo hi (record { count = 0; at = 0; due = false; mode = 0; depth = 0; name = 0; level = l })
 unfolding trail_of Goes run is_stuck
 traced_start text w lo hi l e n m =
-    let first : byte_of text 0 ≡ run_end 0 text 0 = byte_behind (cut_start text) in
+    let first : byte_of text 0 ≡ run_end Spaces text 0 = byte_behind (cut_start text) in
     record {
       cut = cut_start text;
       goes = refl;

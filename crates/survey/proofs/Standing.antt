@@ -1,6 +1,7 @@
 -- One token of the survey: where it stands behind a token that leads to a mode, opens a level, closes one or parts two arguments, and what
 -- is found where a token is refused. The state behind is the one that the code computes.
 -- Assumes nothing.
+use Rattle.text.specs.declared.Run.TheVariants.{Spaces}
 use Prim.Native.Nat.{ℕ, suc, ◌+◌, ◌-◌, ◌≤◌, ◌<◌}
 use mathlib.Core.Path.{◌≡◌, refl, sym, ◌∙◌, ap, subst, subst⁻¹}
 use mathlib.Core.Bool.{Bool, true, false, not, cond}
@@ -119,7 +120,7 @@ module _ {text list w : List ℕ} {s : W.State} (h : Standing text list w s) whe
         is_goes text (s.count + 1) (stuck_next n.stands ∙ ap not (ap (λ (a : ℕ). taken a s.level.kind) (sym n.acts) ∙ on))
 
     pub further : s.count < t.end
-    further = omega (arith, h.few, n.longer, n.stands.begins, run_behind 0 text s.at)
+    further = omega (arith, h.few, n.longer, n.stands.begins, run_behind Spaces text s.at)
 
     -- where it and what follows it begin
     here : place (source text list) s.count ≡ t.begin
@@ -187,7 +188,7 @@ module _ {text list w : List ℕ} {s : W.State} (h : Standing text list w s) whe
     unfolding level_past
     level_small =
         small_kept (length text) (group_of t.kind) (tightness_of t.kind) s.mode t.behind s.level
-        (omega (arith, n.follows, run_within 0 text t.end n.within)) left_of.small
+        (omega (arith, n.follows, run_within Spaces text t.end n.within)) left_of.small
 
     pub opens : Opens s t
     unfolding Called

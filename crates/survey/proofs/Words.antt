@@ -1,6 +1,7 @@
 -- Where a token ends, by its class: a name where names end, a number where numbers do; so the bytes of the token are the word, or the number,
 -- of which the definitions speak.
 -- Assumes nothing.
+use Rattle.text.specs.declared.Run.TheVariants.{Spaces, NameBytes, Until}
 use Prim.Native.Nat.{ℕ, zero, suc, ◌+◌, ◌≤◌}
 use native.Mathlib.Omega.{arith}
 use mathlib.Core.Path.{◌≡◌, refl, sym, ◌∙◌, ap, subst}
@@ -79,17 +80,17 @@ module _ (text : List ℕ) (i : ℕ) (due : Bool) where
       (λ _. choice (λ k. T (numberless k)) (ltb (position axis_names (between text i e)) (length axis_names)) (λ _. tt) (λ _. tt))
       (λ _. tt)))
 
-  starred : star_at text (run_end 2 text i) ≡ true → has_prefix text i ≡ false → ⊥
+  starred : star_at text (run_end NameBytes text i) ≡ true → has_prefix text i ≡ false → ⊥
   unfolding has_prefix
   starred s h = true≢false (sym (rw s) ∙ h)
 
   named_ends : EndsAt text i (named text i due)
   unfolding EndsAt named code apart numberless
   named_ends =
-      choice (EndsAt text i) (star_at text (run_end 2 text i))
-      (λ s. choice (λ k. Ends text i k (run_end 2 text i + 2)) due (λ _. plain text i 33 _ tt) (λ _. other_name text i _ (λ _ h. starred s h)))
+      choice (EndsAt text i) (star_at text (run_end NameBytes text i))
+      (λ s. choice (λ k. Ends text i k (run_end NameBytes text i + 2)) due (λ _. plain text i 33 _ tt) (λ _. other_name text i _ (λ _ h. starred s h)))
       (λ _.
-      let none = name_numberless (name_end text i) (run_end 0 text (name_end text i)) in
+      let none = name_numberless (name_end text i) (run_end Spaces text (name_end text i)) in
       record {
         name = λ _ _ _. refl;
         function = λ _. refl;
@@ -121,7 +122,7 @@ module _ (text : List ℕ) (i : ℕ) (due : Bool) where
         number = λ _. refl;
       }) (λ _.
       choice (EndsAt text i) (quote_at text i)
-      (λ _. choice (EndsAt text i) (ltb (run_end (byte text i) text (i + 1)) (length text)) (λ _. plain text i 14 _ tt) (λ _. plain text i 33 _ tt)) (λ _.
+      (λ _. choice (EndsAt text i) (ltb (run_end (Until (byte text i)) text (i + 1)) (length text)) (λ _. plain text i 14 _ tt) (λ _. plain text i 33 _ tt)) (λ _.
       choice (EndsAt text i) (letter_at text i) (λ _. named_ends) (λ _.
       choice (EndsAt text i) (variable_at text i) (λ _. plain text i 16 _ tt) (λ _.
       punctuation_ends))))

@@ -1,5 +1,6 @@
 -- What `look` promises: the next token of a text, and what it does in a mode.
 -- Assumes nothing: these are definitions.
+use Rattle.text.specs.declared.Run.TheVariants.{Spaces}
 use Rattle.std.specs.Prelude.{ℕ, ◌<◌, ◌≤◌, ◌≡◌, Bool, List, length}
 use Rattle.text.specs.Tokens.{run_end, lexeme}
 use Rattle.text.proofs.Cutting.{Stands}
@@ -10,12 +11,12 @@ use Rattle.survey.specs.declared.look.Seen.{Seen}
 pub record Known (text : List ℕ) (at : ℕ) (due : Bool) (mode : ℕ) (r : Seen) : Type 0 where
   pub stands : Stands text at due r.kind r.begin r.end
   pub acts : r.act ≡ act_of r.kind mode
-  pub follows : r.behind ≡ run_end 0 text r.end
+  pub follows : r.behind ≡ run_end Spaces text r.end
   pub longer : r.begin < r.end
   pub within : r.end ≤ length text
 
 pub record Sees (text : List ℕ) (at : ℕ) (due : Bool) (mode : ℕ) (r : Seen) : Type 0 where
-  pub begins : r.begin ≡ run_end 0 text at
+  pub begins : r.begin ≡ run_end Spaces text at
   pub class : r.kind ≤ 34
   pub known : r.kind < 33 → Known text at due mode r
   pub unknown : r.kind ≡ 33 → Stands text at due r.kind r.begin (lexeme text r.begin due).end

@@ -3,6 +3,7 @@ ghost use Rattle.std.specs.Prelude.{◌≡◌, ◌<◌, ◌≤◌, length};
 ghost use Rattle.survey.specs.Looking.{Sees};
 
 use modes::act_at;
+use text::Run;
 use tokens::{next_token, run_end};
 
 // A token: its class (34 at the end of the text), its first byte, the byte behind it and where the next one begins, and what it does: 0 is a
@@ -26,7 +27,7 @@ pub fn look(text: &[u8], at: usize, due: bool, mode: usize) -> Seen
     let end = token.end;
     if kind < 33 {
         let act = act_at(kind, mode);
-        let behind = run_end(0, text, end);
+        let behind = run_end(Run::Spaces, text, end);
         return Seen {
             kind,
             begin,

@@ -8,7 +8,7 @@ use crate::facts::name_of;
 use crate::look::{Seen, look};
 use crate::window::{keep, recall};
 use levels::{fresh, group_of, level_in, tightness_of};
-use text::Level;
+use text::{Level, Run};
 use tokens::{is_due, run_end};
 
 // Where a reading stands: behind how many tokens and behind which byte, whether an operator is due, the mode, how many brackets are open,
@@ -149,7 +149,7 @@ pub fn refill(text: &[u8], count: usize, window: &mut [usize], lo: usize, hi: us
         mode: 0,
         depth: 0,
         name: 0,
-        level: fresh(0, run_end(0, text, 0)),
+        level: fresh(0, run_end(Run::Spaces, text, 0)),
     };
     while t.count < count {
         t = follow(text, t, window, lo, hi);

@@ -14,7 +14,7 @@ use levels::{
     sort_behind, sort_in, tightness_of,
 };
 use names::Names;
-use text::{Fault, Level, Sort};
+use text::{Fault, Level, Run, Sort};
 use tokens::{is_due, run_end};
 
 // Where the survey stands: a trace, the lowest level that the window is for, the sort of the operand in progress and the fault that was
@@ -310,7 +310,7 @@ pub fn survey_text(text: &[u8], names: &Names, window: &mut [usize]) -> Option<F
         low: 0,
         name: 0,
         sort: Sort::Unheld,
-        level: fresh(0, run_end(0, text, 0)),
+        level: fresh(0, run_end(Run::Spaces, text, 0)),
         fault: None,
         ended: false,
     };

@@ -1,6 +1,7 @@
 -- How a loop over a text cuts it into tokens: where it stands behind the first k tokens (`Cut`), what the next token adds, and where the
 -- tokens end; so the places of tokens ascend, and so do the bytes behind them.
 -- Assumes nothing.
+use Rattle.text.specs.declared.Run.TheVariants.{Spaces}
 use Prim.Native.Nat.{ℕ, zero, suc, ◌+◌, ◌-◌, ◌<◌, ◌≤◌}
 use mathlib.Core.Path.{◌≡◌, refl, sym, ◌∙◌, ap, subst}
 use mathlib.Core.Bool.{Bool, true, false, cond}
@@ -25,36 +26,36 @@ use Rattle.text.proofs.Lexemes.{run_behind, lexeme_takes, lexeme_known, class_of
 -- ---- fuel
 
 -- no token stands behind the last byte
-none_past : (fuel : ℕ) (text : List ℕ) (i : ℕ) (due : Bool) → length text ≤ run_end 0 text i → tokens_from fuel text i due ≡ []
+none_past : (fuel : ℕ) (text : List ℕ) (i : ℕ) (due : Bool) → length text ≤ run_end Spaces text i → tokens_from fuel text i due ≡ []
 unfolding tokens_from
 none_past zero text i due h = refl
-none_past (suc fuel) text i due h = rw (le-ltb (run_end 0 text i) (length text) h)
+none_past (suc fuel) text i due h = rw (le-ltb (run_end Spaces text i) (length text) h)
 
 -- the tokens don't depend on the fuel once there is one for each byte
 pub more_fuel :
     (fuel more : ℕ) (text : List ℕ) (i : ℕ) (due : Bool) → length text ≤ fuel + i → length text ≤ more + i
     → tokens_from fuel text i due ≡ tokens_from more text i due
 unfolding tokens_from
-more_fuel zero more text i due h k = sym (none_past more text i due (omega (arith, run_behind 0 text i)))
-more_fuel (suc fuel) zero text i due h k = none_past (suc fuel) text i due (omega (arith, run_behind 0 text i))
+more_fuel zero more text i due h k = sym (none_past more text i due (omega (arith, run_behind Spaces text i)))
+more_fuel (suc fuel) zero text i due h k = none_past (suc fuel) text i due (omega (arith, run_behind Spaces text i))
 more_fuel (suc fuel) (suc more) text i due h k =
-    let f : Lexeme = lexeme text (run_end 0 text i) due in
-    by f (ltb (run_end 0 text i) (length text)) refl (eqb f.kind (code unknown)) refl
+    let f : Lexeme = lexeme text (run_end Spaces text i) due in
+    by f (ltb (run_end Spaces text i) (length text)) refl (eqb f.kind (code unknown)) refl
     (λ l n.
-    let t : run_end 0 text i < f.end = (lexeme_takes text (run_end 0 text i) due l n).0 in
-    more_fuel fuel more text f.end (operator_due f.kind) (omega (arith, run_behind 0 text i)) (omega (arith, run_behind 0 text i)))
+    let t : run_end Spaces text i < f.end = (lexeme_takes text (run_end Spaces text i) due l n).0 in
+    more_fuel fuel more text f.end (operator_due f.kind) (omega (arith, run_behind Spaces text i)) (omega (arith, run_behind Spaces text i)))
   where
     by :
-        (f : Lexeme) (b : Bool) → ltb (run_end 0 text i) (length text) ≡ b → (c : Bool) → eqb f.kind (code unknown) ≡ c
-        → (run_end 0 text i < length text → (f.kind ≡ code unknown → ⊥)
+        (f : Lexeme) (b : Bool) → ltb (run_end Spaces text i) (length text) ≡ b → (c : Bool) → eqb f.kind (code unknown) ≡ c
+        → (run_end Spaces text i < length text → (f.kind ≡ code unknown → ⊥)
         → tokens_from fuel text f.end (operator_due f.kind) ≡ tokens_from more text f.end (operator_due f.kind))
-        → cond b (placed (class_of f.kind) (run_end 0 text i) f.end ∷ cond c [] (tokens_from fuel text f.end (operator_due f.kind))) []
-        ≡ cond b (placed (class_of f.kind) (run_end 0 text i) f.end ∷ cond c [] (tokens_from more text f.end (operator_due f.kind))) []
+        → cond b (placed (class_of f.kind) (run_end Spaces text i) f.end ∷ cond c [] (tokens_from fuel text f.end (operator_due f.kind))) []
+        ≡ cond b (placed (class_of f.kind) (run_end Spaces text i) f.end ∷ cond c [] (tokens_from more text f.end (operator_due f.kind))) []
     by f false e c d r = refl
     by f true e true d r = refl
     by f true e false d r =
-        ap (λ l. placed (class_of f.kind) (run_end 0 text i) f.end ∷ l)
-        (r (ltb-true (run_end 0 text i) (length text) e) (eqb-false f.kind (code unknown) d))
+        ap (λ l. placed (class_of f.kind) (run_end Spaces text i) f.end ∷ l)
+        (r (ltb-true (run_end Spaces text i) (length text) e) (eqb-false f.kind (code unknown) d))
 
 -- ---- where a loop stands
 
@@ -75,14 +76,14 @@ pub record Cut (text : List ℕ) (k i : ℕ) (due : Bool) : Type 0 where
 
 -- the next token: the number of its class, its first byte and the byte behind it
 pub record Stands (text : List ℕ) (i : ℕ) (due : Bool) (kind begin behind : ℕ) : Type 0 where
-  pub begins : begin ≡ run_end 0 text i
+  pub begins : begin ≡ run_end Spaces text i
   pub inside : begin < length text
   pub kind_is : kind ≡ (lexeme text begin due).kind
   pub behind_is : behind ≡ (lexeme text begin due).end
 
 pub stands_there :
-    (text : List ℕ) (i : ℕ) (due : Bool) → run_end 0 text i < length text
-    → Stands text i due (lexeme text (run_end 0 text i) due).kind (run_end 0 text i) (lexeme text (run_end 0 text i) due).end
+    (text : List ℕ) (i : ℕ) (due : Bool) → run_end Spaces text i < length text
+    → Stands text i due (lexeme text (run_end Spaces text i) due).kind (run_end Spaces text i) (lexeme text (run_end Spaces text i) due).end
 stands_there text i due h = record { begins = refl; inside = h; kind_is = refl; behind_is = refl }
 
 pub cut_start : (text : List ℕ) → Cut text 0 0 false
@@ -97,7 +98,7 @@ unfolded :
 unfolding tokens_from
 unfolded text i due n =
     more_fuel (length text) (suc (length text)) text i due (omega arith) (omega arith)
-    ∙ rw (n.kind_is, n.behind_is, n.begins, lt-ltb (run_end 0 text i) (length text) (omega (arith, n.begins, n.inside)))
+    ∙ rw (n.kind_is, n.behind_is, n.begins, lt-ltb (run_end Spaces text i) (length text) (omega (arith, n.begins, n.inside)))
 
 nothing : Placed
 nothing = placed unknown 0 0
@@ -133,7 +134,7 @@ byte_place text list k = refl
 
 module _ {text : List ℕ} {k i : ℕ} {due : Bool} (c : Cut text k i due) where
   -- behind the last byte there is no token more
-  pub cut_end : length text ≤ run_end 0 text i → k ≡ length (tokens text)
+  pub cut_end : length text ≤ run_end Spaces text i → k ≡ length (tokens text)
   cut_end h = omega (arith, c.count, length-drop k (tokens text), ap length (c.rest ∙ none_past (length text) text i due h))
 
   module _ {kind begin behind : ℕ} (n : Stands text i due kind begin behind) where
@@ -194,8 +195,8 @@ module _ {text : List ℕ} {k i : ℕ} {due : Bool} (c : Cut text k i due) where
 -- ---- every token is cut so
 
 -- where tokens are left, one begins within the text
-pub cut_inside : {text : List ℕ} {k i : ℕ} {due : Bool} → Cut text k i due → k < length (tokens text) → run_end 0 text i < length text
-cut_inside {text} {k} {i} c h = ⊎_elim (λ l. l) (λ l. absurd (omega (arith, cut_end c l))) (lt_or_ge (run_end 0 text i) (length text))
+pub cut_inside : {text : List ℕ} {k i : ℕ} {due : Bool} → Cut text k i due → k < length (tokens text) → run_end Spaces text i < length text
+cut_inside {text} {k} {i} c h = ⊎_elim (λ l. l) (λ l. absurd (omega (arith, cut_end c l))) (lt_or_ge (run_end Spaces text i) (length text))
 
 -- every token of a text, as a loop meets it
 pub record Met (text : List ℕ) (k : ℕ) : Type 0 where
@@ -224,11 +225,11 @@ met text (suc k) h =
 
 module _ (text list : List ℕ) where
   -- a token's place is behind the spaces behind the token before it
-  pub raw_place : (k : ℕ) → k < length (tokens text) → L.place (source text list) k ≡ run_end 0 text (raw text k)
+  pub raw_place : (k : ℕ) → k < length (tokens text) → L.place (source text list) k ≡ run_end Spaces text (raw text k)
   raw_place k h = let m = met text k h in cut_place m.cut m.stands list ∙ m.stands.begins
 
   pub raw_before : (k : ℕ) → k < length (tokens text) → raw text k ≤ L.place (source text list) k
-  raw_before k h = omega (arith, raw_place k h, run_behind 0 text (raw text k))
+  raw_before k h = omega (arith, raw_place k h, run_behind Spaces text (raw text k))
 
   -- every token but the last is known
   pub known_before : (k : ℕ) → k + 1 < length (tokens text) → get_or (classes_of text) k unknown ≡ unknown → ⊥

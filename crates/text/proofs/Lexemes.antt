@@ -1,6 +1,8 @@
 -- What a token takes of its text: every token but `unknown` ends behind the byte that begins it, and within the text; and its number is that
 -- of a class.
 -- Assumes nothing.
+use Rattle.text.specs.declared.Run.{Run}
+use Rattle.text.specs.declared.Run.TheVariants.{Spaces, Digits, NameBytes, Until}
 use Prim.Native.Nat.{ℕ, suc, ◌+◌, ◌<◌, ◌≤◌}
 use mathlib.Core.Path.{◌≡◌, refl, sym, ◌∙◌, ap}
 use mathlib.Core.Bool.{Bool, true, false, ◌&&◌, ◌||◌, cond, true≢false, and-false}
@@ -48,26 +50,26 @@ equal_inside text i b h e = there (λ x. eqb x b) (ne_eqb 0 b (λ t. omega (arit
 
 -- ---- runs
 
-many_fits : (q : ℕ) (l : List ℕ) → many q l ≤ length l
+many_fits : (q : Run) (l : List ℕ) → many q l ≤ length l
 unfolding many
 many_fits q [] = omega arith
 many_fits q (b ∷ l) = choice (λ n. n ≤ suc (length l)) (passes q b) (λ _. omega (arith, many_fits q l)) (λ _. omega arith)
 
-pub run_behind : (q : ℕ) (text : List ℕ) (i : ℕ) → i ≤ run_end q text i
+pub run_behind : (q : Run) (text : List ℕ) (i : ℕ) → i ≤ run_end q text i
 unfolding run_end
 run_behind q text i = omega arith
 
-pub run_within : (q : ℕ) (text : List ℕ) (i : ℕ) → i ≤ length text → run_end q text i ≤ length text
+pub run_within : (q : Run) (text : List ℕ) (i : ℕ) → i ≤ length text → run_end q text i ≤ length text
 unfolding run_end
 run_within q text i h = omega (arith, many_fits q (drop i text), length-drop i text)
 
 -- a run that begins with a byte that passes takes it
-pub run_takes : (q : ℕ) (text : List ℕ) (i : ℕ) → i < length text → passes q (byte text i) ≡ true → i < run_end q text i
+pub run_takes : (q : Run) (text : List ℕ) (i : ℕ) → i < length text → passes q (byte text i) ≡ true → i < run_end q text i
 unfolding run_end many
 run_takes q text i h e = rw (drop-cons text i 0 h, e) (omega arith)
 
 -- where a byte passes the run's end is that from the next byte; where one does not, and past the end, the run ends
-module _ (q : ℕ) (text : List ℕ) (i : ℕ) where
+module _ (q : Run) (text : List ℕ) (i : ℕ) where
   pub run_on : i < length text → passes q (byte text i) ≡ true → run_end q text (i + 1) ≡ run_end q text i
   unfolding run_end many
   run_on h p = rw (drop-cons text i 0 h, p, add-one) (omega arith)
@@ -90,58 +92,58 @@ module _ (text : List ℕ) where
   number_within : (i : ℕ) → i ≤ length text → number_end text i ≤ length text
   unfolding number_end
   number_within i h =
-      choice (λ n. n ≤ length text) (eqb (byte text (run_end 1 text i)) 46)
-      (λ e. run_within 1 text (run_end 1 text i + 1) (omega (arith, there (λ b. eqb b 46) refl text (run_end 1 text i) e)))
-      (λ e. run_within 1 text i h)
+      choice (λ n. n ≤ length text) (eqb (byte text (run_end Digits text i)) 46)
+      (λ e. run_within Digits text (run_end Digits text i + 1) (omega (arith, there (λ b. eqb b 46) refl text (run_end Digits text i) e)))
+      (λ e. run_within Digits text i h)
 
   number_takes : (i : ℕ) → i < length text → number_at text i ≡ true → i < number_end text i
   unfolding number_end number_at
   number_takes i h e =
-      choice (λ n. i < n) (eqb (byte text (run_end 1 text i)) 46)
-      (λ _. omega (arith, run_behind 1 text i, run_behind 1 text (run_end 1 text i + 1)))
-      (λ d. ⊎_elim (λ l. l) (λ l. point (omega (arith, run_behind 1 text i)) d) (lt_or_ge i (run_end 1 text i)))
+      choice (λ n. i < n) (eqb (byte text (run_end Digits text i)) 46)
+      (λ _. omega (arith, run_behind Digits text i, run_behind Digits text (run_end Digits text i + 1)))
+      (λ d. ⊎_elim (λ l. l) (λ l. point (omega (arith, run_behind Digits text i)) d) (lt_or_ge i (run_end Digits text i)))
     where
       digit :
           (t : Bool) → is_digit (byte text i) ≡ t → (t || (eqb (byte text i) 46 && is_digit (byte text (i + 1)))) ≡ true
-          → eqb (byte text i) 46 ≡ false → i < run_end 1 text i
-      digit true a k d = run_takes 1 text i h a
+          → eqb (byte text i) 46 ≡ false → i < run_end Digits text i
+      digit true a k d = run_takes Digits text i h a
       digit false a k d = absurd (true≢false (sym (both_l (eqb (byte text i) 46) (is_digit (byte text (i + 1))) k) ∙ d))
 
-      point : run_end 1 text i ≡ i → eqb (byte text (run_end 1 text i)) 46 ≡ false → i < run_end 1 text i
+      point : run_end Digits text i ≡ i → eqb (byte text (run_end Digits text i)) 46 ≡ false → i < run_end Digits text i
       point s d = digit (is_digit (byte text i)) refl e (ap (λ (n : ℕ). eqb (byte text n) 46) (sym s) ∙ d)
 
   quoted_takes : (i q : ℕ) → Takes text i (quoted text i q)
   unfolding quoted
   quoted_takes i q =
-      choice (Takes text i) (ltb (run_end q text (i + 1)) (length text))
-      (λ e _. (omega (arith, run_behind q text (i + 1)), omega (arith, ltb-true (run_end q text (i + 1)) (length text) e)))
+      choice (Takes text i) (ltb (run_end (Until q) text (i + 1)) (length text))
+      (λ e _. (omega (arith, run_behind (Until q) text (i + 1)), omega (arith, ltb-true (run_end (Until q) text (i + 1)) (length text) e)))
       (λ _ n. absurd (n refl))
 
-  pub name_behind : (i : ℕ) → run_end 2 text i ≤ name_end text i
+  pub name_behind : (i : ℕ) → run_end NameBytes text i ≤ name_end text i
   unfolding name_end
   name_behind i =
-      choice (λ n. run_end 2 text i ≤ n) (eqb (byte text (run_end 2 text i)) 58 && is_letter (byte text (run_end 2 text i + 1)))
-      (λ _. omega (arith, run_behind 2 text (run_end 2 text i + 1)))
+      choice (λ n. run_end NameBytes text i ≤ n) (eqb (byte text (run_end NameBytes text i)) 58 && is_letter (byte text (run_end NameBytes text i + 1)))
+      (λ _. omega (arith, run_behind NameBytes text (run_end NameBytes text i + 1)))
       (λ _. omega arith)
 
   pub name_within : (i : ℕ) → i ≤ length text → name_end text i ≤ length text
   unfolding name_end
   name_within i h =
-      choice (λ n. n ≤ length text) (eqb (byte text (run_end 2 text i)) 58 && is_letter (byte text (run_end 2 text i + 1)))
-      (λ e. run_within 2 text (run_end 2 text i + 1)
-      (omega (arith, there (λ b. eqb b 58) refl text (run_end 2 text i) (both_l (eqb (byte text (run_end 2 text i)) 58) _ e))))
-      (λ _. run_within 2 text i h)
+      choice (λ n. n ≤ length text) (eqb (byte text (run_end NameBytes text i)) 58 && is_letter (byte text (run_end NameBytes text i + 1)))
+      (λ e. run_within NameBytes text (run_end NameBytes text i + 1)
+      (omega (arith, there (λ b. eqb b 58) refl text (run_end NameBytes text i) (both_l (eqb (byte text (run_end NameBytes text i)) 58) _ e))))
+      (λ _. run_within NameBytes text i h)
 
-  name_takes : (i : ℕ) → i < length text → letter_at text i ≡ true → i < run_end 2 text i
+  name_takes : (i : ℕ) → i < length text → letter_at text i ≡ true → i < run_end NameBytes text i
   unfolding letter_at
-  name_takes i h e = run_takes 2 text i h (rw e)
+  name_takes i h e = run_takes NameBytes text i h (rw e)
 
   named_takes : (i : ℕ) (due : Bool) → i < length text → letter_at text i ≡ true → Takes text i (named text i due)
   unfolding named star_at
   named_takes i due h e =
-      choice (Takes text i) (star_at text (run_end 2 text i))
+      choice (Takes text i) (star_at text (run_end NameBytes text i))
       (λ s _.
-      let l = there (λ b. eqb b 42) refl text (run_end 2 text i + 1) (both_r (eqb (byte text (run_end 2 text i)) 58) _ s) in
+      let l = there (λ b. eqb b 42) refl text (run_end NameBytes text i + 1) (both_r (eqb (byte text (run_end NameBytes text i)) 58) _ s) in
       (omega (arith, name_takes i h e), omega (arith, l)))
       (λ _ _. (omega (arith, name_takes i h e, name_behind i), name_within i (omega arith)))
 
@@ -149,7 +151,7 @@ module _ (text : List ℕ) where
   unfolding variable_at
   variable_takes i e =
       let l : i + 1 < length text = there is_letter refl text (i + 1) (both_r (eqb (byte text i) 36) (is_letter (byte text (i + 1))) e) in
-      (omega (arith, run_behind 2 text (i + 1), name_behind (i + 1)), name_within (i + 1) (omega arith))
+      (omega (arith, run_behind NameBytes text (i + 1), name_behind (i + 1)), name_within (i + 1) (omega arith))
 
 -- no token of two bytes ends with 0
 pair_there : (b : ℕ) → pair_class b 0 ≡ code unknown
@@ -267,11 +269,11 @@ module _ (text : List ℕ) (i : ℕ) (due : Bool) where
   named_class : IsClass (named text i due).kind
   unfolding named name_class operator_name node_type axis_name class_among
   named_class =
-      choice Classed (star_at text (run_end 2 text i))
+      choice Classed (star_at text (run_end NameBytes text i))
       (λ _. choice IsClass due (λ _. (unknown, refl)) (λ _. (NameTest, refl)))
       (λ _. choice IsClass due (λ _. (_, refl)) (λ _.
-      choice IsClass (opens_at text (run_end 0 text (name_end text i))) (λ _. (_, refl)) (λ _.
-      choice IsClass (axis_at text i (name_end text i) (run_end 0 text (name_end text i)))
+      choice IsClass (opens_at text (run_end Spaces text (name_end text i))) (λ _. (_, refl)) (λ _.
+      choice IsClass (axis_at text i (name_end text i) (run_end Spaces text (name_end text i)))
       (λ _. choice IsClass (ltb (position axis_names (between text i (name_end text i))) (length axis_names)) (λ _. (AxisName, refl)) (λ _. (unknown, refl)))
       (λ _. (NameTest, refl)))))
 
@@ -287,7 +289,7 @@ module _ (text : List ℕ) (i : ℕ) (due : Bool) where
   lexeme_class =
       choice Classed (number_at text i) (λ _. (Number, refl)) (λ _.
       choice Classed (quote_at text i)
-      (λ _. choice Classed (ltb (run_end (byte text i) text (i + 1)) (length text)) (λ _. (Literal, refl)) (λ _. (unknown, refl))) (λ _.
+      (λ _. choice Classed (ltb (run_end (Until (byte text i)) text (i + 1)) (length text)) (λ _. (Literal, refl)) (λ _. (unknown, refl))) (λ _.
       choice Classed (letter_at text i) (λ _. named_class) (λ _.
       choice Classed (variable_at text i) (λ _. (VariableReference, refl)) (λ _.
       punctuation_class))))

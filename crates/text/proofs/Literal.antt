@@ -2,6 +2,7 @@
 -- the grammar that has the same bytes up to the end of the last of them. Behind that token it has a space, and then what leads the machine
 -- to an end.
 -- Assumes nothing.
+use Rattle.text.specs.declared.Run.TheVariants.{Spaces, NameBytes}
 use Prim.Native.Nat.{ℕ, zero, suc, ◌+◌, ◌-◌, ◌<◌, ◌≤◌}
 use mathlib.Core.Path.{◌≡◌, refl, sym, ◌∙◌, ap, ap₂, subst}
 use mathlib.Core.Bool.{Bool, true, false, ◌&&◌, not, cond, true≢false}
@@ -86,34 +87,34 @@ colons_end text i due e =
     let b : byte text (i + 1) ≡ 58 = eqb-true (byte text (i + 1)) 58 (both_r (eqb (byte text i) 58) (eqb (byte text (i + 1)) 58) e) in
     rw (a, b)
 
-module _ (w x z : List ℕ) (i e : ℕ) (begun : i ≤ e) (fits : e ≤ length w) (run : run_end 2 (w ++ x) i ≤ e) where
+module _ (w x z : List ℕ) (i e : ℕ) (begun : i ≤ e) (fits : e ≤ length w) (run : run_end NameBytes (w ++ x) i ≤ e) where
   -- a name before another token keeps its class
   followed_token :
-      (due : Bool) → run_end 0 (w ++ x) e < length w → (colons_at (w ++ x) (run_end 0 (w ++ x) e) ≡ true → run_end 0 (w ++ x) e + 1 < length w)
-      → name_class (spaced w z) i e (run_end 0 (spaced w z) e) due ≡ name_class (w ++ x) i e (run_end 0 (w ++ x) e) due
+      (due : Bool) → run_end Spaces (w ++ x) e < length w → (colons_at (w ++ x) (run_end Spaces (w ++ x) e) ≡ true → run_end Spaces (w ++ x) e + 1 < length w)
+      → name_class (spaced w z) i e (run_end Spaces (spaced w z) e) due ≡ name_class (w ++ x) i e (run_end Spaces (w ++ x) e) due
   unfolding name_class opens_at axis_at
   followed_token due h f =
-      let next : ℕ = run_end 0 (w ++ x) e in
+      let next : ℕ = run_end Spaces (w ++ x) e in
       rw (
-        run_same w x z 0 e (omega arith) (λ q. absurd (omega arith)),
+        run_same w x z Spaces e (omega arith) (λ q. absurd (omega arith)),
         between_same w x z i e begun fits,
         pair_same w x z (λ b. eqb b 58) (λ b. eqb b 58) refl refl next (omega arith) f,
         byte_same w x z next h,
-        run_same w x z 2 i (omega arith) (λ _. refl),
+        run_same w x z NameBytes i (omega arith) (λ _. refl),
       )
 
   -- and so does one before what its class wants
   followed_last :
-      (due : Bool) (k : ℕ) → (name_class (w ++ x) i e (run_end 0 (w ++ x) e) due ≡ code unknown → ⊥)
-      → T (look_fits (class_of (name_class (w ++ x) i e (run_end 0 (w ++ x) e) due)) k) → opens_at (spaced w z) (run_end 0 (spaced w z) e) ≡ eqb k 1
-      → colons_at (spaced w z) (run_end 0 (spaced w z) e) ≡ eqb k 2
-      → name_class (spaced w z) i e (run_end 0 (spaced w z) e) due ≡ name_class (w ++ x) i e (run_end 0 (w ++ x) e) due
+      (due : Bool) (k : ℕ) → (name_class (w ++ x) i e (run_end Spaces (w ++ x) e) due ≡ code unknown → ⊥)
+      → T (look_fits (class_of (name_class (w ++ x) i e (run_end Spaces (w ++ x) e) due)) k) → opens_at (spaced w z) (run_end Spaces (spaced w z) e) ≡ eqb k 1
+      → colons_at (spaced w z) (run_end Spaces (spaced w z) e) ≡ eqb k 2
+      → name_class (spaced w z) i e (run_end Spaces (spaced w z) e) due ≡ name_class (w ++ x) i e (run_end Spaces (w ++ x) e) due
   unfolding name_class axis_at
   followed_last true k u f p q = ap operator_name (between_same w x z i e begun fits)
   followed_last false k u f p q =
-      rw (between_same w x z i e begun fits, run_same w x z 2 i (omega arith) (λ _. refl))
-      (name_kept (between (w ++ x) i e) (opens_at (w ++ x) (run_end 0 (w ++ x) e)) (colons_at (w ++ x) (run_end 0 (w ++ x) e))
-      (eqb e (run_end 2 (w ++ x) i)) _ _ k u f p q)
+      rw (between_same w x z i e begun fits, run_same w x z NameBytes i (omega arith) (λ _. refl))
+      (name_kept (between (w ++ x) i e) (opens_at (w ++ x) (run_end Spaces (w ++ x) e)) (colons_at (w ++ x) (run_end Spaces (w ++ x) e))
+      (eqb e (run_end NameBytes (w ++ x) i)) _ _ k u f p q)
 
 -- ---- the same tokens, cut the same way
 
@@ -151,8 +152,8 @@ both_next {text} {u} {k} {kind} {begin} b n n' known =
 module _ (w x z : List ℕ) (n a : ℕ) (count : n ≤ length (tokens (w ++ x))) (ends : raw (w ++ x) n ≡ length w)
     (known : (k : ℕ) → k < n → get_or (classes_of (w ++ x)) k unknown ≡ unknown → ⊥)
     (fits : (k : ℕ) → k + 1 ≡ n → T (look_fits (get_or (classes_of (w ++ x)) k unknown) a))
-    (opens : opens_at (spaced w z) (run_end 0 (spaced w z) (length w)) ≡ eqb a 1)
-    (colons : colons_at (spaced w z) (run_end 0 (spaced w z) (length w)) ≡ eqb a 2) where
+    (opens : opens_at (spaced w z) (run_end Spaces (spaced w z) (length w)) ≡ eqb a 1)
+    (colons : colons_at (spaced w z) (run_end Spaces (spaced w z) (length w)) ≡ eqb a 2) where
   raw_fits : (k : ℕ) → k ≤ n → raw (w ++ x) k ≤ length w
   raw_fits k h =
       ⊎_elim
@@ -167,8 +168,8 @@ module _ (w x z : List ℕ) (n a : ℕ) (count : n ≤ length (tokens (w ++ x)))
   -- where token k begins
   token_begins :
       (k : ℕ) → k < n
-      → (run_end 0 (w ++ x) (raw (w ++ x) k) < length w)
-      × (colons_at (w ++ x) (run_end 0 (w ++ x) (raw (w ++ x) k)) ≡ true → run_end 0 (w ++ x) (raw (w ++ x) k) + 1 < length w)
+      → (run_end Spaces (w ++ x) (raw (w ++ x) k) < length w)
+      × (colons_at (w ++ x) (run_end Spaces (w ++ x) (raw (w ++ x) k)) ≡ true → run_end Spaces (w ++ x) (raw (w ++ x) k) + 1 < length w)
   token_begins k h =
       let m = met (w ++ x) k (omega arith) in
       let e = cut_raw m.cut m.stands in
@@ -185,7 +186,7 @@ module _ (w x z : List ℕ) (n a : ℕ) (count : n ≤ length (tokens (w ++ x)))
     due = due_at (w ++ x) k
 
     begin : ℕ
-    begin = run_end 0 (w ++ x) (raw (w ++ x) k)
+    begin = run_end Spaces (w ++ x) (raw (w ++ x) k)
 
     found : Lexeme
     found = lexeme (w ++ x) begin due
@@ -209,10 +210,10 @@ module _ (w x z : List ℕ) (n a : ℕ) (count : n ≤ length (tokens (w ++ x)))
     follows e =
         let f : ℕ = name_end (w ++ x) begin in
         let s : raw (w ++ x) (k + 1) ≡ f = ends_there ∙ ap (λ (l : Lexeme). l.end) e in
-        let t : found.kind ≡ name_class (w ++ x) begin f (run_end 0 (w ++ x) f) due = ap (λ (l : Lexeme). l.kind) e in
-        let g : run_end 2 (w ++ x) begin ≤ f = name_behind (w ++ x) begin in
+        let t : found.kind ≡ name_class (w ++ x) begin f (run_end Spaces (w ++ x) f) due = ap (λ (l : Lexeme). l.kind) e in
+        let g : run_end NameBytes (w ++ x) begin ≤ f = name_behind (w ++ x) begin in
         let l : f ≤ length w = omega (arith, raw_fits (k + 1) (omega arith)) in
-        let i : begin ≤ f = omega (arith, run_behind 2 (w ++ x) begin) in
+        let i : begin ≤ f = omega (arith, run_behind NameBytes (w ++ x) begin) in
         ⊎_elim
         (λ m.
         let q = rw s at (token_begins (k + 1) m) in
@@ -220,11 +221,11 @@ module _ (w x z : List ℕ) (n a : ℕ) (count : n ≤ length (tokens (w ++ x)))
         (λ m.
         let j : k + 1 ≡ n = omega arith in
         let o : f ≡ length w = sym s ∙ ap (raw (w ++ x)) j ∙ ends in
-        let c : get_or (classes_of (w ++ x)) k unknown ≡ class_of (name_class (w ++ x) begin f (run_end 0 (w ++ x) f) due) =
+        let c : get_or (classes_of (w ++ x)) k unknown ≡ class_of (name_class (w ++ x) begin f (run_end Spaces (w ++ x) f) due) =
         cut_class b.first there unknown ∙ ap class_of t in
         followed_last w x z begin f i l g due a (λ u. found_known (t ∙ u)) (subst (λ (t : Token). T (look_fits t a)) c (fits k j))
-        (ap (λ (j : ℕ). opens_at (spaced w z) (run_end 0 (spaced w z) j)) o ∙ opens)
-        (ap (λ (j : ℕ). colons_at (spaced w z) (run_end 0 (spaced w z) j)) o ∙ colons))
+        (ap (λ (j : ℕ). opens_at (spaced w z) (run_end Spaces (spaced w z) j)) o ∙ opens)
+        (ap (λ (j : ℕ). colons_at (spaced w z) (run_end Spaces (spaced w z) j)) o ∙ colons))
         (lt_or_ge (k + 1) n)
 
     there_too : Stands (spaced w z) (raw (w ++ x) k) (due_at (w ++ x) k) found.kind begin found.end
@@ -234,7 +235,7 @@ module _ (w x z : List ℕ) (n a : ℕ) (count : n ≤ length (tokens (w ++ x)))
         let same : lexeme (spaced w z) begin due ≡ lexeme (w ++ x) begin due =
         lexeme_same w x z begin begins_in due follows (found_known, omega (arith, ends_there)) in
         record {
-          begins = sym (run_same w x z 0 (raw (w ++ x) k) (omega (arith, begins_in)) (λ e. absurd (omega (arith, begins_in))));
+          begins = sym (run_same w x z Spaces (raw (w ++ x) k) (omega (arith, begins_in)) (λ e. absurd (omega (arith, begins_in))));
           inside = omega (arith, begins_in, length-append w (32 ∷ z));
           kind_is = ap (λ (f : Lexeme). f.kind) (sym same);
           behind_is = ap (λ (f : Lexeme). f.end) (sym same);
@@ -307,7 +308,7 @@ module _ (w x : List ℕ) (n : ℕ) (count : n ≤ length (tokens (w ++ x))) (go
       let seam : Meets u (32 ∷ v) (length w) (length w) 0 = record { apart = omega arith; alike = drop-append_seam w (32 ∷ v) } in
       let ahead = completion_ahead m around s in
       let b = both w x v n (look m) count ends (λ k. viable_known (classes_of (w ++ x)) n k many_classes goes_on) (last_fits m around ran)
-      (opens_meets (meets_run seam 0) ∙ ahead.0) (colons_meets (meets_run seam 0) ∙ ahead.1) n (omega arith) in
+      (opens_meets (meets_run seam Spaces) ∙ ahead.0) (colons_meets (meets_run seam Spaces) ∙ ahead.1) n (omega arith) in
       let rest : drop n (classes_of u) ≡ finish m ++ shut around =
       drop_map class n (tokens u)
       ∙ ap (map class) b.second.rest

@@ -1,6 +1,8 @@
 -- A token depends on the bytes up to its end and, if it is a name, on what follows: where a text is cut behind a token and goes on with a
 -- space, the token stays.
 -- Assumes nothing.
+use Rattle.text.specs.declared.Run.{Run}
+use Rattle.text.specs.declared.Run.TheVariants.{Spaces, Digits, NameBytes, Until}
 use Prim.Native.Nat.{ℕ, suc, ◌+◌, ◌-◌, ◌<◌, ◌≤◌}
 use mathlib.Core.Path.{◌≡◌, refl, sym, ◌∙◌, ap, ap₂}
 use mathlib.Core.Bool.{Bool, true, false, ◌&&◌, ◌||◌, cond, true≢false, or-true, and-false}
@@ -35,15 +37,15 @@ fails false f = refl
 
 -- ---- numbers
 
-run_none : (q : ℕ) (text : List ℕ) (i : ℕ) → i < length text → passes q (byte text i) ≡ false → run_end q text i ≡ i
+run_none : (q : Run) (text : List ℕ) (i : ℕ) → i < length text → passes q (byte text i) ≡ false → run_end q text i ≡ i
 unfolding run_end many
 run_none q text i h e = rw (drop-cons text i 0 h, e) (omega arith)
 
-number_behind : (text : List ℕ) (i : ℕ) → run_end 1 text i ≤ number_end text i
+number_behind : (text : List ℕ) (i : ℕ) → run_end Digits text i ≤ number_end text i
 unfolding number_end
 number_behind text i =
-    choice (λ n. run_end 1 text i ≤ n) (eqb (byte text (run_end 1 text i)) 46)
-    (λ _. omega (arith, run_behind 1 text (run_end 1 text i + 1)))
+    choice (λ n. run_end Digits text i ≤ n) (eqb (byte text (run_end Digits text i)) 46)
+    (λ _. omega (arith, run_behind Digits text (run_end Digits text i + 1)))
     (λ _. omega arith)
 
 -- a point before a digit
@@ -56,13 +58,13 @@ unfolding number_end pointed
 point_end text i h e =
     let p : eqb (byte text i) 46 ≡ true = both_l (eqb (byte text i) 46) (is_digit (byte text (i + 1))) e in
     let n : is_digit (byte text (i + 1)) ≡ true = both_r (eqb (byte text i) 46) (is_digit (byte text (i + 1))) e in
-    let r : run_end 1 text i ≡ i = run_none 1 text i h (rw (eqb-true (byte text i) 46 p)) in
-    rw (r, p) (run_takes 1 text (i + 1) (there is_digit refl text (i + 1) n) n)
+    let r : run_end Digits text i ≡ i = run_none Digits text i h (rw (eqb-true (byte text i) 46 p)) in
+    rw (r, p) (run_takes Digits text (i + 1) (there is_digit refl text (i + 1) n) n)
 
 -- ---- runs
 
 many_same :
-    (q : ℕ) (a x z : List ℕ) → many q (a ++ x) ≤ length a → (many q (a ++ x) ≡ length a → passes q 32 ≡ false)
+    (q : Run) (a x z : List ℕ) → many q (a ++ x) ≤ length a → (many q (a ++ x) ≡ length a → passes q 32 ≡ false)
     → many q (a ++ (32 ∷ z)) ≡ many q (a ++ x)
 unfolding many
 many_same q [] x z h f = rw (f (omega arith)) (omega arith)
@@ -123,7 +125,7 @@ module _ (w x z : List ℕ) where
       by false l f = refl
 
   pub run_same :
-      (q i : ℕ) → run_end q (w ++ x) i ≤ length w → (run_end q (w ++ x) i ≡ length w → passes q 32 ≡ false)
+      (q : Run) (i : ℕ) → run_end q (w ++ x) i ≤ length w → (run_end q (w ++ x) i ≡ length w → passes q 32 ≡ false)
       → run_end q (spaced w z) i ≡ run_end q (w ++ x) i
   unfolding run_end
   run_same q i h f =
@@ -146,30 +148,30 @@ module _ (w x z : List ℕ) where
   number_same : (i : ℕ) → number_end (w ++ x) i ≤ length w → number_end (spaced w z) i ≡ number_end (w ++ x) i
   unfolding number_end
   number_same i h =
-      let r : ℕ = run_end 1 (w ++ x) i in
+      let r : ℕ = run_end Digits (w ++ x) i in
       let l : r ≤ length w = omega (arith, number_behind (w ++ x) i) in
-      rw (run_same 1 i l (λ _. refl))
+      rw (run_same Digits i l (λ _. refl))
       (branch (λ n. n ≤ length w) (eqb (byte (w ++ x) r) 46) (eqb (byte (spaced w z) r) 46)
-      (λ f g. test_same (λ b. eqb b 46) refl r l (λ e. omega (arith, f e, run_behind 1 (w ++ x) (r + 1))))
-      (λ _ k. run_same 1 (r + 1) k (λ _. refl))
+      (λ f g. test_same (λ b. eqb b 46) refl r l (λ e. omega (arith, f e, run_behind Digits (w ++ x) (r + 1))))
+      (λ _ k. run_same Digits (r + 1) k (λ _. refl))
       (λ _ _. refl)
       h)
 
   pub name_same : (i : ℕ) → name_end (w ++ x) i ≤ length w → name_end (spaced w z) i ≡ name_end (w ++ x) i
   unfolding name_end
   name_same i h =
-      let r : ℕ = run_end 2 (w ++ x) i in
+      let r : ℕ = run_end NameBytes (w ++ x) i in
       let l : r ≤ length w = omega (arith, name_behind (w ++ x) i) in
-      rw (run_same 2 i l (λ _. refl))
+      rw (run_same NameBytes i l (λ _. refl))
       (branch (λ n. n ≤ length w) (eqb (byte (w ++ x) r) 58 && is_letter (byte (w ++ x) (r + 1)))
       (eqb (byte (spaced w z) r) 58 && is_letter (byte (spaced w z) (r + 1)))
       (λ f g. pair_same (λ b. eqb b 58) is_letter refl refl r l (λ e. further r (both_r (eqb (byte (w ++ x) r) 58) _ e) (f e)))
-      (λ _ k. run_same 2 (r + 1) k (λ _. refl))
+      (λ _ k. run_same NameBytes (r + 1) k (λ _. refl))
       (λ _ _. refl)
       h)
     where
-      further : (r : ℕ) → is_letter (byte (w ++ x) (r + 1)) ≡ true → run_end 2 (w ++ x) (r + 1) ≤ length w → r + 1 < length w
-      further r e k = omega (arith, run_takes 2 (w ++ x) (r + 1) (there is_letter refl (w ++ x) (r + 1) e) (rw e))
+      further : (r : ℕ) → is_letter (byte (w ++ x) (r + 1)) ≡ true → run_end NameBytes (w ++ x) (r + 1) ≤ length w → r + 1 < length w
+      further r e k = omega (arith, run_takes NameBytes (w ++ x) (r + 1) (there is_letter refl (w ++ x) (r + 1) e) (rw e))
 
   -- ---- each kind of token
 
@@ -191,21 +193,21 @@ module _ (w x z : List ℕ) where
     quoted_same : (q : ℕ) → Stays w (quoted (w ++ x) i q) → quoted (spaced w z) i q ≡ quoted (w ++ x) i q
     unfolding quoted
     quoted_same q =
-        branch (Stays w) (ltb r (length (w ++ x))) (ltb (run_end q (spaced w z) (i + 1)) (length (spaced w z)))
+        branch (Stays w) (ltb r (length (w ++ x))) (ltb (run_end (Until q) (spaced w z) (i + 1)) (length (spaced w z)))
         (λ f g. closed (ltb r (length (w ++ x))) refl f g)
         (λ _ k. ap (λ (n : ℕ). token (code Literal) (n + 1)) (run k.1))
         (λ _ k. absurd (k.0 refl))
       where
         r : ℕ
-        r = run_end q (w ++ x) (i + 1)
+        r = run_end (Until q) (w ++ x) (i + 1)
 
-        run : r + 1 ≤ length w → run_end q (spaced w z) (i + 1) ≡ r
-        run h = run_same q (i + 1) (omega arith) (λ e. absurd (omega arith))
+        run : r + 1 ≤ length w → run_end (Until q) (spaced w z) (i + 1) ≡ r
+        run h = run_same (Until q) (i + 1) (omega arith) (λ e. absurd (omega arith))
 
         closed :
             (b : Bool) → ltb r (length (w ++ x)) ≡ b → (b ≡ true → Stays w (token (code Literal) (r + 1)))
             → (b ≡ false → Stays w (token (code unknown) i))
-            → ltb (run_end q (spaced w z) (i + 1)) (length (spaced w z)) ≡ b
+            → ltb (run_end (Until q) (spaced w z) (i + 1)) (length (spaced w z)) ≡ b
         closed true e f g =
             let h : r + 1 ≤ length w = (f refl).1 in
             rw (run h) (lt-ltb r (length (spaced w z)) (omega (arith, length-append w (32 ∷ z))))
@@ -218,7 +220,7 @@ module _ (w x z : List ℕ) where
         further : (eqb (byte (w ++ x) i) 36 && is_letter (byte (w ++ x) (i + 1))) ≡ true → name_end (w ++ x) (i + 1) ≤ length w → i + 1 < length w
         further e k =
             let l : is_letter (byte (w ++ x) (i + 1)) ≡ true = both_r (eqb (byte (w ++ x) i) 36) (is_letter (byte (w ++ x) (i + 1))) e in
-            omega (arith, name_behind (w ++ x) (i + 1), run_takes 2 (w ++ x) (i + 1) (there is_letter refl (w ++ x) (i + 1) l) (rw l))
+            omega (arith, name_behind (w ++ x) (i + 1), run_takes NameBytes (w ++ x) (i + 1) (there is_letter refl (w ++ x) (i + 1) l) (rw l))
 
     punctuation_same : (due : Bool) → Stays w (punctuation (w ++ x) i due) → punctuation (spaced w z) i due ≡ punctuation (w ++ x) i due
     unfolding punctuation
@@ -249,16 +251,16 @@ module _ (w x z : List ℕ) where
     -- what follows a name makes it what it was
     abbrev pub Followed : Bool → Type 0
     Followed due =
-        lexeme (w ++ x) i due ≡ token (name_class (w ++ x) i (name_end (w ++ x) i) (run_end 0 (w ++ x) (name_end (w ++ x) i)) due) (name_end (w ++ x) i)
-        → name_class (spaced w z) i (name_end (w ++ x) i) (run_end 0 (spaced w z) (name_end (w ++ x) i)) due
-        ≡ name_class (w ++ x) i (name_end (w ++ x) i) (run_end 0 (w ++ x) (name_end (w ++ x) i)) due
+        lexeme (w ++ x) i due ≡ token (name_class (w ++ x) i (name_end (w ++ x) i) (run_end Spaces (w ++ x) (name_end (w ++ x) i)) due) (name_end (w ++ x) i)
+        → name_class (spaced w z) i (name_end (w ++ x) i) (run_end Spaces (spaced w z) (name_end (w ++ x) i)) due
+        ≡ name_class (w ++ x) i (name_end (w ++ x) i) (run_end Spaces (w ++ x) (name_end (w ++ x) i)) due
 
     named_same :
         (due : Bool) → lexeme (w ++ x) i due ≡ named (w ++ x) i due → Followed due → Stays w (named (w ++ x) i due)
         → named (spaced w z) i due ≡ named (w ++ x) i due
     unfolding named star_at
     named_same due e follows k =
-        rw (run_same 2 i (reach k) (λ _. refl))
+        rw (run_same NameBytes i (reach k) (λ _. refl))
         (branch (Stays w) (star_at (w ++ x) r) (star_at (spaced w z) r)
         (λ f g. pair_same (λ b. eqb b 58) (λ b. eqb b 42) refl refl r (reach k) (λ t. omega (arith, (f t).1)))
         (λ _ _. refl)
@@ -266,7 +268,7 @@ module _ (w x z : List ℕ) where
         k)
       where
         r : ℕ
-        r = run_end 2 (w ++ x) i
+        r = run_end NameBytes (w ++ x) i
 
         reach : Stays w (named (w ++ x) i due) → r ≤ length w
         reach k =

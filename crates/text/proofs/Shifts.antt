@@ -1,5 +1,7 @@
 -- The tokens from a byte on depend on the bytes from there on alone: where two texts go on alike, so do their tokens.
 -- Assumes nothing.
+use Rattle.text.specs.declared.Run.{Run}
+use Rattle.text.specs.declared.Run.TheVariants.{Spaces, Digits, NameBytes, Until}
 use Prim.Native.Nat.{ℕ, zero, suc, ◌+◌, ◌-◌}
 use mathlib.Core.Path.{◌≡◌, refl, sym, ◌∙◌, ap, ap₂}
 use mathlib.Core.Bool.{Bool, true, false, ◌&&◌, cond}
@@ -45,7 +47,7 @@ module _ {u v : List ℕ} {d : ℕ} where
   meets_on {i} {j} m k =
       record { apart = omega (arith, m.apart); alike = sym (drop-drop k i u) ∙ ap (drop k) m.alike ∙ drop-drop k j v }
 
-  pub meets_run : {i j : ℕ} → Meets u v d i j → (q : ℕ) → Meets u v d (run_end q u i) (run_end q v j)
+  pub meets_run : {i j : ℕ} → Meets u v d i j → (q : Run) → Meets u v d (run_end q u i) (run_end q v j)
   unfolding run_end
   meets_run {i} {j} m q = rw m.alike (meets_on m (many q (drop j v)))
 
@@ -56,14 +58,14 @@ module _ {u v : List ℕ} {d : ℕ} where
   meets_number : {i j : ℕ} → Meets u v d i j → Meets u v d (number_end u i) (number_end v j)
   unfolding number_end
   meets_number m =
-      let r = meets_run m 1 in
-      choices (Meets u v d) (ap (λ (b : ℕ). eqb b 46) (meets_byte r)) (meets_run (meets_on r 1) 1) r
+      let r = meets_run m Digits in
+      choices (Meets u v d) (ap (λ (b : ℕ). eqb b 46) (meets_byte r)) (meets_run (meets_on r 1) Digits) r
 
   pub meets_name : {i j : ℕ} → Meets u v d i j → Meets u v d (name_end u i) (name_end v j)
   unfolding name_end
   meets_name m =
-      let r = meets_run m 2 in
-      choices (Meets u v d) (ap₂ (λ (b c : ℕ). eqb b 58 && is_letter c) (meets_byte r) (next_byte r)) (meets_run (meets_on r 1) 2) r
+      let r = meets_run m NameBytes in
+      choices (Meets u v d) (ap₂ (λ (b c : ℕ). eqb b 58 && is_letter c) (meets_byte r) (next_byte r)) (meets_run (meets_on r 1) NameBytes) r
 
   between_meets : {i j e f : ℕ} → Meets u v d i j → Meets u v d e f → between u i e ≡ between v j f
   between_meets {i} {j} {e} {f} m n =
@@ -108,14 +110,14 @@ module _ {u v : List ℕ} {d : ℕ} where
 
     quoted_meets : {i j : ℕ} → Meets u v d i j → (q : ℕ) → Alike u v d (quoted u i q) (quoted v j q)
     unfolding quoted
-    quoted_meets m q = let r = meets_run (meets_on m 1) q in choices (Alike u v d) (inside_meets r) (refl, meets_on r 1) (refl, m)
+    quoted_meets m q = let r = meets_run (meets_on m 1) (Until q) in choices (Alike u v d) (inside_meets r) (refl, meets_on r 1) (refl, m)
 
     named_meets : {i j : ℕ} → Meets u v d i j → (due : Bool) → Alike u v d (named u i due) (named v j due)
     unfolding named star_at name_class axis_at
     named_meets m due =
-        let r = meets_run m 2 in
+        let r = meets_run m NameBytes in
         let e = meets_name m in
-        let n = meets_run e 0 in
+        let n = meets_run e Spaces in
         choices (Alike u v d) (ap₂ (λ (b c : ℕ). eqb b 58 && eqb c 42) (meets_byte r) (next_byte r))
         (refl, meets_on r 2)
         (rw (between_meets m e, opens_meets n, colons_meets n, equal_meets r e), e)
@@ -144,7 +146,7 @@ module _ {u v : List ℕ} {d : ℕ} where
     unfolding tokens_from
     tokens_meet zero m due = refl
     tokens_meet (suc fuel) m due =
-        let b = meets_run m 0 in
+        let b = meets_run m Spaces in
         let (k, e) = lexeme_meets b due in
         choices (λ x y. map class x ≡ map class y) (inside_meets b)
         (ap₂ ◌∷◌ (ap class_of k)

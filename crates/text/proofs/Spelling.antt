@@ -1,5 +1,6 @@
 -- The tokens that lead a beginning to an end, as bytes: each with a space behind it, and read as the class that was meant.
 -- Assumes nothing.
+use Rattle.text.specs.declared.Run.TheVariants.{Spaces}
 use Prim.Native.Nat.{ℕ, zero, suc, ◌+◌, ◌<◌}
 use mathlib.Core.Path.{◌≡◌, refl, ◌∙◌, ap₂, subst}
 use mathlib.Core.Bool.{Bool, true, false, ◌||◌, not, cond}
@@ -34,7 +35,7 @@ pub data Spelled : Bool → List Token → List ℕ → Type 0 where
 
 -- behind a space, such a token is read whatever follows
 record Reads (due : Bool) (t : Token) (b v : List ℕ) : Type 0 where
-  begins : run_end 0 (32 ∷ (b ++ v)) 0 ≡ 1
+  begins : run_end Spaces (32 ∷ (b ++ v)) 0 ≡ 1
   is : lexeme (32 ∷ (b ++ v)) 1 due ≡ token (code t) (1 + length b)
   known : eqb (code t) (code unknown) ≡ false
   classed : class_of (code t) ≡ t
@@ -149,7 +150,7 @@ finish_look part around = shut_look around
 
 -- what stands behind the spaces at the front
 abbrev pub Ahead : List ℕ → ℕ → Type 0
-Ahead v k = (opens_at v (run_end 0 v 0) ≡ eqb k 1) × (colons_at v (run_end 0 v 0) ≡ eqb k 2)
+Ahead v k = (opens_at v (run_end Spaces v 0) ≡ eqb k 1) × (colons_at v (run_end Spaces v 0) ≡ eqb k 2)
 
 spelled_ahead : {due : Bool} {ts : List Token} {v : List ℕ} → Spelled due ts v → Ahead (32 ∷ v) (first_look ts)
 unfolding first_look opens_at run_end many code

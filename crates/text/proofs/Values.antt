@@ -1,6 +1,7 @@
 -- The value of a number literal of at most 15 digits is one that document 01 takes: finite and not negative. Its whole number and its power of
 -- ten are held exactly, the quotient is no more than the whole number, and the bits of such a value are below those of infinity.
 -- Assumes nothing.
+use Rattle.text.specs.declared.Run.TheVariants.{Digits}
 use Prim.Native.Nat.{ℕ, zero, suc, ◌+◌, ◌-◌, ◌*◌, ◌/◌, ◌%◌, ◌^◌, ◌≤◌, ◌<◌}
 use mathlib.Core.Path.{◌≡◌, refl, sym, subst, subst⁻¹, ap, ◌∙◌}
 use mathlib.Core.Logic.{inl, inr}
@@ -147,14 +148,14 @@ digits_below n (b ∷ w) = decide (is_digit b) refl (digits_below n w) (digits_b
     decide false e h k = h
 
 -- a run of digits is digits
-run_digits : (xs : List ℕ) (j : ℕ) → j ≤ many 1 xs → length (take j xs) ≤ length (keep is_digit (take j xs))
+run_digits : (xs : List ℕ) (j : ℕ) → j ≤ many Digits xs → length (take j xs) ≤ length (keep is_digit (take j xs))
 unfolding many keep
 run_digits xs zero h = omega arith
 run_digits [] (suc j) h = omega arith
 run_digits (b ∷ xs) (suc j) h = decide (is_digit b) h (run_digits xs j)
   where
     decide :
-        (q : Bool) → suc j ≤ cond q (suc (many 1 xs)) 0 → (j ≤ many 1 xs → length (take j xs) ≤ length (keep is_digit (take j xs)))
+        (q : Bool) → suc j ≤ cond q (suc (many Digits xs)) 0 → (j ≤ many Digits xs → length (take j xs) ≤ length (keep is_digit (take j xs)))
         → suc (length (take j xs)) ≤ length (cond q (b ∷ keep is_digit (take j xs)) (keep is_digit (take j xs)))
     decide true h r = omega (arith, r (omega arith))
     decide false h r = absurd (omega arith)
@@ -164,7 +165,7 @@ abbrev OnePoint : List ℕ → Type 0
 OnePoint w = length w ≤ suc (length (keep is_digit w))
 
 -- so it is with two runs of digits and a byte between them
-two_runs : (xs : List ℕ) (i n : ℕ) → i ≤ many 1 (drop (suc (many 1 xs)) xs) → n ≡ suc (many 1 xs) + i → OnePoint (take n xs)
+two_runs : (xs : List ℕ) (i n : ℕ) → i ≤ many Digits (drop (suc (many Digits xs)) xs) → n ≡ suc (many Digits xs) + i → OnePoint (take n xs)
 unfolding many keep
 two_runs [] i zero h e = omega arith
 two_runs [] i (suc n) h e = omega arith
@@ -172,8 +173,8 @@ two_runs (b ∷ xs) i zero h e = omega arith
 two_runs (b ∷ xs) i (suc n) h e = decide (is_digit b) h e (two_runs xs i n)
   where
     decide :
-        (q : Bool) → i ≤ many 1 (drop (suc (cond q (suc (many 1 xs)) 0)) (b ∷ xs)) → suc n ≡ suc (cond q (suc (many 1 xs)) 0) + i
-        → (i ≤ many 1 (drop (suc (many 1 xs)) xs) → n ≡ suc (many 1 xs) + i → OnePoint (take n xs))
+        (q : Bool) → i ≤ many Digits (drop (suc (cond q (suc (many Digits xs)) 0)) (b ∷ xs)) → suc n ≡ suc (cond q (suc (many Digits xs)) 0) + i
+        → (i ≤ many Digits (drop (suc (many Digits xs)) xs) → n ≡ suc (many Digits xs) + i → OnePoint (take n xs))
         → suc (length (take n xs)) ≤ suc (length (cond q (b ∷ keep is_digit (take n xs)) (keep is_digit (take n xs))))
     decide true h e r = omega (arith, r h (omega arith))
     decide false h e r = omega (arith, run_digits xs n (omega arith))
@@ -181,16 +182,16 @@ two_runs (b ∷ xs) i (suc n) h e = decide (is_digit b) h e (two_runs xs i n)
 -- and with a number
 one_point : (text : List ℕ) (p : ℕ) → OnePoint (number_at text p)
 unfolding number_at number_end run_end
-one_point text p = decide (eqb (byte text (run_end 1 text p)) 46)
+one_point text p = decide (eqb (byte text (run_end Digits text p)) 46)
   where
-    decide : (q : Bool) → OnePoint (between text p (cond q (run_end 1 text (run_end 1 text p + 1)) (run_end 1 text p)))
+    decide : (q : Bool) → OnePoint (between text p (cond q (run_end Digits text (run_end Digits text p + 1)) (run_end Digits text p)))
     decide true =
-        let j : ℕ = many 1 (drop p text) in
-        let i : ℕ = many 1 (drop (p + j + 1) text) in
+        let j : ℕ = many Digits (drop p text) in
+        let i : ℕ = many Digits (drop (p + j + 1) text) in
         let place : p + suc j ≡ p + j + 1 = omega arith in
         let same : drop (suc j) (drop p text) ≡ drop (p + j + 1) text = drop-drop (suc j) p text ∙ ap (λ (k : ℕ). drop k text) place in
-        two_runs (drop p text) i (p + j + 1 + i - p) (le_of_eq (ap (many 1) (sym same))) (omega arith)
-    decide false = omega (arith, run_digits (drop p text) (p + many 1 (drop p text) - p) (omega arith))
+        two_runs (drop p text) i (p + j + 1 + i - p) (le_of_eq (ap (many Digits) (sym same))) (omega arith)
+    decide false = omega (arith, run_digits (drop p text) (p + many Digits (drop p text) - p) (omega arith))
 
 -- the digits behind the point are digits
 behind_few : (text : List ℕ) (p : ℕ) → digits_behind (number_at text p) ≤ length (digits (number_at text p))

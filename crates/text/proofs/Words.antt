@@ -1,6 +1,7 @@
 -- A token's bytes say what it is: the word, or the number, that stands at a token is given by the bytes from its first to its last,
 -- whatever stands around it in the text.
 -- Assumes nothing.
+use Rattle.text.specs.declared.Run.TheVariants.{NameBytes, Until}
 use Prim.Native.Nat.{ℕ, zero, suc, ◌+◌, ◌-◌, ◌<◌, ◌≤◌}
 use mathlib.Core.Path.{◌≡◌, refl, sym, ◌∙◌, ap}
 use mathlib.Core.Bool.{Bool, true, false, ◌&&◌, ◌||◌, not, true≢false}
@@ -74,16 +75,16 @@ module _ (text : List ℕ) (i : ℕ) where
   quoted_whole : (q : ℕ) → Whole text i (quoted text i q)
   unfolding quoted code
   quoted_whole q =
-      choice (Whole text i) (ltb (run_end q text (i + 1)) (length text)) (λ _. mark_whole _ refl) (λ _. mark_whole _ refl)
+      choice (Whole text i) (ltb (run_end (Until q) text (i + 1)) (length text)) (λ _. mark_whole _ refl) (λ _. mark_whole _ refl)
 
   -- a name that goes on with `:*` ends before it
-  star_name : star_at text (run_end 2 text i) ≡ true → name_end text i ≡ run_end 2 text i
+  star_name : star_at text (run_end NameBytes text i) ≡ true → name_end text i ≡ run_end NameBytes text i
   unfolding star_at name_end
   star_name e =
-      let star : byte text (run_end 2 text i + 1) ≡ 42 =
-      eqb-true (byte text (run_end 2 text i + 1)) 42 (both_r (eqb (byte text (run_end 2 text i)) 58) _ e) in
-      let colon : byte text (run_end 2 text i) ≡ 58 =
-      eqb-true (byte text (run_end 2 text i)) 58 (both_l (eqb (byte text (run_end 2 text i)) 58) _ e) in
+      let star : byte text (run_end NameBytes text i + 1) ≡ 42 =
+      eqb-true (byte text (run_end NameBytes text i + 1)) 42 (both_r (eqb (byte text (run_end NameBytes text i)) 58) _ e) in
+      let colon : byte text (run_end NameBytes text i) ≡ 58 =
+      eqb-true (byte text (run_end NameBytes text i)) 58 (both_l (eqb (byte text (run_end NameBytes text i)) 58) _ e) in
       rw (colon, star)
 
   -- a name is no number
@@ -104,7 +105,7 @@ module _ (text : List ℕ) (i : ℕ) where
   named_whole : (due : Bool) → Whole text i (named text i due)
   unfolding named code
   named_whole due =
-      choice (Whole text i) (star_at text (run_end 2 text i))
+      choice (Whole text i) (star_at text (run_end NameBytes text i))
       (λ e. record {
         number = never (choice NoNumber due (λ _. refl) (λ _. refl));
         word = λ _. omega (arith, star_name e);
@@ -116,7 +117,7 @@ module _ (text : List ℕ) (i : ℕ) where
   unfolding name_end
   star_whole h e =
       let star : byte text i ≡ 42 = eqb-true (byte text i) 42 e in
-      rw (run_stop 2 text i h (rw star), star)
+      rw (run_stop NameBytes text i h (rw star), star)
 
   -- a sign is no number and no word, but for `*`
   pair_other : (b d : ℕ) → (is_number_class (pair_class b d) || is_word_class (pair_class b d)) ≡ false

@@ -1,6 +1,7 @@
 -- What of a text document 01 can hold (document 02, W-202): words, the sorts of expressions, and the faults 24, 25 and 26 with their bytes.
 -- It stands over the tree of constructs, a line for each kind of construct.
 -- Assumes nothing: these are definitions.
+use Rattle.text.specs.declared.Run.TheVariants.{Digits, NameBytes}
 use Rattle.text.specs.declared.Function.{Function}
 use Rattle.text.specs.declared.Function.TheVariants.{PositionCall, LastCall, CountCall, NotCall, BooleanCall, OtherCall}
 use Rattle.std.specs.Prelude.{ℕ, suc, ◌+◌, ◌-◌, ◌^◌, Bool, true, false, ◌&&◌, ◌||◌, not, cond, List, [], ◌∷◌, ◌++◌, length, get_or, eqb, ltb, leb, Float}
@@ -48,7 +49,7 @@ unfoldable pub is_star : List ℕ → ℕ → Bool
 is_star text p = eqb (byte text p) 42
 
 unfoldable pub has_prefix : List ℕ → ℕ → Bool
-has_prefix text p = star_at text (run_end 2 text p) || not (eqb (name_end text p) (run_end 2 text p))
+has_prefix text p = star_at text (run_end NameBytes text p) || not (eqb (name_end text p) (run_end NameBytes text p))
 
 -- ---- the five functions
 
@@ -99,7 +100,7 @@ most_digits = 15
 
 -- how many digits stand behind the point
 unfoldable pub digits_behind : List ℕ → ℕ
-digits_behind w = length w - (many 1 w + 1)
+digits_behind w = length w - (many Digits w + 1)
 
 -- the whole number of its digits, divided once by the power of ten
 unfoldable pub value_at : List ℕ → ℕ → Float

@@ -1,6 +1,8 @@
 -- The tokens of a text (the Recommendation, 3.7): bytes to classes of tokens, the longest token first, by the byte that begins it and by
 -- whether an operator is due, which the token before it decides.
 -- Assumes nothing: these are definitions.
+use Rattle.text.specs.declared.Run.{Run}
+use Rattle.text.specs.declared.Run.TheVariants.{Spaces, Digits, NameBytes, Until}
 use Rattle.std.specs.Prelude.{ℕ, zero, suc, ◌+◌, ◌-◌, Bool, false, ◌&&◌, ◌||◌, not, cond, List, [], ◌∷◌, map, length, get_or, take, drop, eqb, ltb, leb}
 use Rattle.decimal.specs.Decimal.{ascii, is_digit}
 use Rattle.names.specs.Names.{is_letter, is_name_byte, position}
@@ -60,12 +62,15 @@ class_of n = get_or classes n unknown
 abbrev pub is_space : ℕ → Bool
 is_space b = eqb b 32 || eqb b 9 || eqb b 10 || eqb b 13
 
--- the bytes that a run is made of: 0 spaces, 1 digits, 2 name bytes; and, for q of 3 or more, all but the byte q
-abbrev pub passes : ℕ → ℕ → Bool
-passes q b = cond (eqb q 0) (is_space b) (cond (eqb q 1) (is_digit b) (cond (eqb q 2) (is_name_byte b) (not (eqb b q))))
+-- the bytes that a run is made of: spaces, digits, name bytes, or all but one
+abbrev pub passes : Run → ℕ → Bool
+passes Spaces b = is_space b
+passes Digits b = is_digit b
+passes NameBytes b = is_name_byte b
+passes (Until q) b = not (eqb b q)
 
 -- how many bytes at the front pass
-unfoldable pub many : ℕ → List ℕ → ℕ
+unfoldable pub many : Run → List ℕ → ℕ
 many q [] = 0
 many q (b ∷ l) =
     let r : ℕ = suc (many q l) in
@@ -76,7 +81,7 @@ abbrev pub byte : List ℕ → ℕ → ℕ
 byte text i = get_or text i 0
 
 -- the end of the run that begins at i
-unfoldable pub run_end : ℕ → List ℕ → ℕ → ℕ
+unfoldable pub run_end : Run → List ℕ → ℕ → ℕ
 run_end q text i = i + many q (drop i text)
 
 -- the bytes from i to before e
@@ -139,9 +144,9 @@ mark_class b due =
 -- a name, with or without `:` and another
 unfoldable pub name_end : List ℕ → ℕ → ℕ
 name_end text i =
-    cond (eqb (byte text (run_end 2 text i)) 58 && is_letter (byte text (run_end 2 text i + 1)))
-    (run_end 2 text (run_end 2 text i + 1))
-    (run_end 2 text i)
+    cond (eqb (byte text (run_end NameBytes text i)) 58 && is_letter (byte text (run_end NameBytes text i + 1)))
+    (run_end NameBytes text (run_end NameBytes text i + 1))
+    (run_end NameBytes text i)
 
 -- `:*` stands at i
 unfoldable pub star_at : List ℕ → ℕ → Bool
@@ -153,7 +158,7 @@ opens_at text i = eqb (byte text i) 40
 
 -- `::` stands at next, after a name without `:` from i to e
 unfoldable pub axis_at : List ℕ → ℕ → ℕ → ℕ → Bool
-axis_at text i e next = eqb (byte text next) 58 && eqb (byte text (next + 1)) 58 && eqb e (run_end 2 text i)
+axis_at text i e next = eqb (byte text next) 58 && eqb (byte text (next + 1)) 58 && eqb e (run_end NameBytes text i)
 
 -- the rules for names, in their order: an operator is due; `(` follows; `::` follows; else a name test. next is what follows behind spaces
 unfoldable pub name_class : List ℕ → ℕ → ℕ → ℕ → Bool → ℕ
@@ -169,19 +174,19 @@ token k e = record { kind = k; end = e }
 -- a name, or `p:*`
 unfoldable pub named : List ℕ → ℕ → Bool → Lexeme
 named text i due =
-    cond (star_at text (run_end 2 text i))
-    (token (cond due (code unknown) (code NameTest)) (run_end 2 text i + 2))
-    (token (name_class text i (name_end text i) (run_end 0 text (name_end text i)) due) (name_end text i))
+    cond (star_at text (run_end NameBytes text i))
+    (token (cond due (code unknown) (code NameTest)) (run_end NameBytes text i + 2))
+    (token (name_class text i (name_end text i) (run_end Spaces text (name_end text i)) due) (name_end text i))
 
 -- ---- other tokens
 
 -- Number [30]: digits, with or without a point and more digits
 unfoldable pub number_end : List ℕ → ℕ → ℕ
-number_end text i = cond (eqb (byte text (run_end 1 text i)) 46) (run_end 1 text (run_end 1 text i + 1)) (run_end 1 text i)
+number_end text i = cond (eqb (byte text (run_end Digits text i)) 46) (run_end Digits text (run_end Digits text i + 1)) (run_end Digits text i)
 
 -- Literal [29], up to the quote q that ends it; no token where none does
 unfoldable pub quoted : List ℕ → ℕ → ℕ → Lexeme
-quoted text i q = cond (ltb (run_end q text (i + 1)) (length text)) (token (code Literal) (run_end q text (i + 1) + 1)) (token (code unknown) i)
+quoted text i q = cond (ltb (run_end (Until q) text (i + 1)) (length text)) (token (code Literal) (run_end (Until q) text (i + 1) + 1)) (token (code unknown) i)
 
 unfoldable pub punctuation : List ℕ → ℕ → Bool → Lexeme
 punctuation text i due =
@@ -236,7 +241,7 @@ end (placed t i e) = e
 unfoldable pub tokens_from : ℕ → List ℕ → ℕ → Bool → List Placed
 tokens_from zero text i due = []
 tokens_from (suc fuel) text i due =
-    let begin : ℕ = run_end 0 text i in
+    let begin : ℕ = run_end Spaces text i in
     let found : Lexeme = lexeme text begin due in
     let rest : List Placed = cond (eqb found.kind (code unknown)) [] (tokens_from fuel text found.end (operator_due found.kind)) in
     cond (ltb begin (length text)) (placed (class_of found.kind) begin found.end ∷ rest) []

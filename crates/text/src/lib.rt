@@ -5,6 +5,15 @@
 ghost use Rattle.std.specs.Prelude.{◌≡◌};
 ghost use Rattle.text.specs.Survey.{function_at};
 
+// What a run of bytes is made of: spaces, digits, name bytes, or all bytes up to one.
+#[derive(Clone, Copy, PartialEq, Eq)]
+pub enum Run {
+    Spaces,
+    Digits,
+    NameBytes,
+    Until(u8),
+}
+
 // A token: the number of its class, and the byte behind it.
 #[derive(Clone, Copy)]
 pub struct Lexeme {

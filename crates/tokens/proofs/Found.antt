@@ -1,5 +1,6 @@
 -- What `tokens::next_token` found: how it is made, and what a caller reads off it.
 -- Assumes nothing.
+use Rattle.text.specs.declared.Run.TheVariants.{Spaces}
 use Prim.Native.Nat.{ℕ, ◌≤◌, ◌<◌}
 use native.Mathlib.Omega.{arith}
 use mathlib.Core.Path.{◌≡◌, refl, ap}
@@ -12,7 +13,7 @@ use Rattle.text.proofs.Lexemes.{Ended, lexeme_end}
 use Rattle.tokens.specs.declared.Next.{Next}
 use Rattle.tokens.specs.Found.{Read, Found}
 
-module _ (text : List ℕ) (at : ℕ) (due : Bool) (begin : ℕ) (behind : begin ≡ run_end 0 text at) where
+module _ (text : List ℕ) (at : ℕ) (due : Bool) (begin : ℕ) (behind : begin ≡ run_end Spaces text at) where
   pub found_token :
       (x : Lexeme) → begin < length text → x ≡ lexeme text begin due
       → Found text at due (record { kind = x.kind; begin = begin; end = x.end })

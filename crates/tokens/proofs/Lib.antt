@@ -1,5 +1,2 @@
-mod Sets
 mod Sought
-mod Pairs
-mod Due
 pub mod Found

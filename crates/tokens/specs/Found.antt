@@ -1,5 +1,6 @@
 -- What `tokens::next_token` promises.
 -- Assumes nothing: these are definitions.
+use Rattle.text.specs.declared.Run.TheVariants.{Spaces}
 use Rattle.std.specs.Prelude.{ℕ, ◌<◌, ◌≤◌, ◌≡◌, Bool, List, length}
 use Rattle.text.specs.Tokens.{run_end, lexeme}
 use Rattle.tokens.specs.declared.Next.{Next}
@@ -13,7 +14,7 @@ Read text due r =
 
 -- what is found from byte `at` on, behind spaces
 pub record Found (text : List ℕ) (at : ℕ) (due : Bool) (r : Next) : Type 0 where
-  pub begins : r.begin ≡ run_end 0 text at
+  pub begins : r.begin ≡ run_end Spaces text at
   pub within : r.begin ≤ length text
   pub class : r.kind ≤ 34
   pub read : Read text due r

@@ -6,31 +6,76 @@ mod naming;
 mod runs;
 mod words;
 
+ghost use Rattle.std.specs.Prelude.{◌≡◌};
+ghost use Rattle.text.specs.Tokens.{token};
+ghost use Rattle.tokens.specs.Classes.{class_number};
+
 pub use lexer::{is_due, next_token};
 pub use naming::{has_prefix, is_star};
-pub use runs::{byte_at, run_end};
+pub use runs::{byte_at, is_digit, run_end};
+use text::Lexeme;
 pub use words::{axis_number, function_number, type_number};
 
-// Classes of tokens that the code names.
-pub const NAME_TEST: usize = 9;
+// The classes of tokens, each at its number from 0. Unknown is where no token can be read.
+#[derive(Clone, Copy, PartialEq, Eq)]
+pub enum Class {
+    Opening,
+    Closing,
+    OpeningSquare,
+    ClosingSquare,
+    Dot,
+    Dots,
+    At,
+    Comma,
+    Colons,
+    NameTest,
+    NodeType,
+    Instruction,
+    FunctionName,
+    AxisName,
+    Literal,
+    Number,
+    Variable,
+    Slash,
+    Slashes,
+    Bar,
+    Plus,
+    Minus,
+    Equal,
+    Unequal,
+    Less,
+    LessEqual,
+    Greater,
+    GreaterEqual,
+    Multiply,
+    And,
+    Or,
+    Div,
+    Mod,
+    Unknown,
+}
 
-pub const AXIS_NAME: usize = 13;
+impl Class {
+    // The number of a class: the machine's table and the passes over a text go by numbers.
+    pub fn number(self) -> usize
+        ensures { result ≡ class_number self }
+    {
+        self as usize
+    }
 
-pub const LITERAL: usize = 14;
+    // A token of this class that ends before a byte.
+    fn token(self, end: usize) -> Lexeme
+        ensures { result ≡ token (class_number self) end }
+    {
+        let kind = self.number();
+        Lexeme { kind, end }
+    }
+}
 
-pub const NUMBER: usize = 15;
-
-pub const VARIABLE: usize = 16;
-
-pub const MULTIPLY: usize = 28;
-
-// No token can be read.
-pub const UNKNOWN: usize = 33;
-
-// The text has ended.
+// The number of the end of a text, which is no class.
 pub const END: usize = 34;
 
-// A token: its class, its first byte and the byte behind it.
+// A token: the number of its class, its first byte and the byte behind it.
 #[derive(Clone, Copy)]
 pub struct Next {
     pub kind: usize,

@@ -1,119 +1,135 @@
-// Words: where one stands in a list, and the classes and numbers that words have. A list is written as document 02's list of names is: each
-// word is ended by a line feed.
-ghost use Rattle.std.specs.Prelude.{◌≡◌, ◌≤◌, length, T};
-ghost use Rattle.names.specs.Names.{same, position, names_of};
+// Words: where one stands in a list, and the classes and numbers that words have.
+ghost use Rattle.std.specs.Prelude.{◌≡◌, ◌≤◌, length, map};
+ghost use Rattle.names.specs.Names.{position};
 ghost use Rattle.text.specs.Tokens.{between, operator_name, node_type, axis_name};
 ghost use Rattle.text.specs.Limited.{axis_number, function_names};
 ghost use Rattle.text.specs.Reading.{type_number};
-ghost use Rattle.tokens.specs.Sets.{ended};
+ghost use Rattle.tokens.specs.Classes.{class_number};
 
-use crate::runs::run_end;
-use crate::{AXIS_NAME, UNKNOWN};
+use crate::Class;
 
-// Are two words the same, byte by byte?
-fn are_same(a: &[u8], b: &[u8]) -> bool
-    ensures { result ≡ same a.now b.now }
-{
-    if a.len() != b.len() {
-        return false;
-    }
-    let mut i = 0;
-    while i < a.len() {
-        if a[i] != b[i] {
-            return false;
-        }
-        i += 1;
-    }
-    true
-}
-
-// Where text[from..to] stands first among the words of a list; their number where it doesn't.
-fn word_in(list: &[u8], text: &[u8], from: usize, to: usize) -> usize
-    requires { T (ended list.now) × (from ≤ to) × (to ≤ length text.now) }
-    ensures { result ≡ position (names_of list.now) (between text.now from to) }
+// Where text[from..to] stands first among some words; their number where it doesn't.
+fn word_in(words: &[&str], text: &[u8], from: usize, to: usize) -> usize
+    requires { (from ≤ to) × (to ≤ length text.now) }
+    ensures { result ≡ position (map (λ w. w.now) words.now) (between text.now from to) }
 {
     let word = &text[from..to];
-    let mut number = 0;
-    let mut at = 0;
-    while at < list.len() {
-        let end = run_end(10, list, at);
-        if are_same(&list[at..end], word) {
-            return number;
-        }
-        at = end + 1;
-        number += 1;
-    }
-    number
+    words
+        .iter()
+        .position(|w| w.as_bytes() == word)
+        .unwrap_or(words.len())
 }
 
-// The classes of the operators' names in their order, and of any other name where an operator is due.
-const OPERATORS: [usize; 5] = [29, 30, 32, 31, UNKNOWN];
+// The operators' names.
+const OPERATORS: [&str; 4] = ["and", "or", "mod", "div"];
 
 // The class of a name where an operator is due.
-pub fn operator_kind(text: &[u8], from: usize, to: usize) -> usize
+#[tactic(auto, using(crate::proofs::Sought::past_last), unfolding(text::specs::Tokens::operator_name, text::specs::Tokens::operator_names, text::specs::Tokens::class_among, text::specs::Tokens::code))]
+pub fn operator_kind(text: &[u8], from: usize, to: usize) -> Class
     requires { (from ≤ to) × (to ≤ length text.now) }
-    ensures { result ≡ operator_name (between text.now from to) }
+    ensures { class_number result ≡ operator_name (between text.now from to) }
 {
-    let number = word_in(b"and\nor\nmod\ndiv\n", text, from, to);
-    OPERATORS[number]
+    match word_in(&OPERATORS, text, from, to) {
+        0 => Class::And,
+        1 => Class::Or,
+        2 => Class::Mod,
+        3 => Class::Div,
+        _ => Class::Unknown,
+    }
 }
 
-// The classes of the node types in their order, and of any other name before `(`.
-const TYPES: [usize; 5] = [10, 10, 11, 10, 12];
+// The node types.
+const NODE_TYPES: [&str; 4] = ["comment", "text", "processing-instruction", "node"];
 
-// The class of a name before `(`.
-pub fn type_kind(text: &[u8], from: usize, to: usize) -> usize
+// The class of a name before `(`: a line for each node type.
+#[tactic(auto, using(crate::proofs::Sought::past_last), unfolding(text::specs::Tokens::node_type, text::specs::Tokens::node_types, text::specs::Tokens::class_among, text::specs::Tokens::code))]
+pub fn type_kind(text: &[u8], from: usize, to: usize) -> Class
     requires { (from ≤ to) × (to ≤ length text.now) }
-    ensures { result ≡ node_type (between text.now from to) }
+    ensures { class_number result ≡ node_type (between text.now from to) }
 {
-    let number = word_in(
-        b"comment\ntext\nprocessing-instruction\nnode\n",
-        text,
-        from,
-        to,
-    );
-    TYPES[number]
+    match word_in(&NODE_TYPES, text, from, to) {
+        0 => Class::NodeType,
+        1 => Class::NodeType,
+        2 => Class::Instruction,
+        3 => Class::NodeType,
+        _ => Class::FunctionName,
+    }
 }
+
+// The axes in the Recommendation's order.
+const AXES: [&str; 13] = [
+    "ancestor",
+    "ancestor-or-self",
+    "attribute",
+    "child",
+    "descendant",
+    "descendant-or-self",
+    "following",
+    "following-sibling",
+    "namespace",
+    "parent",
+    "preceding",
+    "preceding-sibling",
+    "self",
+];
 
 // The class of a name before `::`.
-pub fn axis_kind(text: &[u8], from: usize, to: usize) -> usize
+#[tactic(auto, unfolding(text::specs::Tokens::axis_name, text::specs::Tokens::axis_names, text::specs::Tokens::code))]
+pub fn axis_kind(text: &[u8], from: usize, to: usize) -> Class
     requires { (from ≤ to) × (to ≤ length text.now) }
-    ensures { result ≡ axis_name (between text.now from to) }
+    ensures { class_number result ≡ axis_name (between text.now from to) }
 {
-    let number = word_in(
-        b"ancestor\nancestor-or-self\nattribute\nchild\ndescendant\ndescendant-or-self\nfollowing\nfollowing-sibling\nnamespace\nparent\npreceding\npreceding-sibling\nself\n",
-        text,
-        from,
-        to,
-    );
-    if number < 13 { AXIS_NAME } else { UNKNOWN }
+    if word_in(&AXES, text, from, to) < AXES.len() {
+        Class::AxisName
+    } else {
+        Class::Unknown
+    }
 }
 
+// The axes in the order of their numbers.
+const NUMBERED_AXES: [&str; 12] = [
+    "self",
+    "child",
+    "parent",
+    "descendant",
+    "ancestor",
+    "descendant-or-self",
+    "ancestor-or-self",
+    "following",
+    "preceding",
+    "following-sibling",
+    "preceding-sibling",
+    "attribute",
+];
+
 // The number of an axis by its name, 12 for namespace and any other word.
+#[tactic(auto, unfolding(text::specs::Limited::axis_number))]
 pub fn axis_number(text: &[u8], from: usize, to: usize) -> usize
     requires { (from ≤ to) × (to ≤ length text.now) }
     ensures { result ≡ axis_number (between text.now from to) }
 {
-    word_in(
-        b"self\nchild\nparent\ndescendant\nancestor\ndescendant-or-self\nancestor-or-self\nfollowing\npreceding\nfollowing-sibling\npreceding-sibling\nattribute\n",
-        text,
-        from,
-        to,
-    )
+    word_in(&NUMBERED_AXES, text, from, to)
 }
 
+// The tests of a step in the order of their numbers.
+const TESTS: [&str; 4] = ["node", "*", "text", "comment"];
+
 // The number of a test by its node type.
+#[tactic(auto, unfolding(text::specs::Reading::type_number))]
 pub fn type_number(text: &[u8], from: usize, to: usize) -> usize
     requires { (from ≤ to) × (to ≤ length text.now) }
     ensures { result ≡ type_number (between text.now from to) }
 {
-    word_in(b"node\n*\ntext\ncomment\n", text, from, to)
+    word_in(&TESTS, text, from, to)
 }
+
+// The functions in the order of their numbers.
+const FUNCTIONS: [&str; 5] = ["position", "last", "count", "not", "boolean"];
 
 // The number of a function by its name, 5 for any that is not held.
 pub fn function_number(text: &[u8], from: usize, to: usize) -> usize
     requires { (from ≤ to) × (to ≤ length text.now) }
     ensures { result ≡ position function_names (between text.now from to) }
 {
-    word_in(b"position\nlast\ncount\nnot\nboolean\n", text, from, to)
+    word_in(&FUNCTIONS, text, from, to)
 }

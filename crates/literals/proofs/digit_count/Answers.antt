@@ -5,28 +5,13 @@ use Rattle.literals.proofs.Digits.{count_digit, count_other, count_none}
 use Rattle.literals.proofs.digit_count.Goals as goal
 use Rattle.literals.proofs.digit_count.Goals.{then-is_digit, else-is_digit}
 
-pub loop-i-init : goal.loop-i-init
-loop-i-init c = (omega arith, omega arith, omega arith)
-
-pub bounds-text-i : goal.bounds-text-i
-bounds-text-i c = omega arith
-
-pub overflow_add-count : goal.overflow_add-count
-overflow_add-count c = omega arith
-
-pub overflow_add-i : goal.overflow_add-i
-overflow_add-i c = omega arith
-
-pub loop-i-smaller : goal.loop-i-smaller
-loop-i-smaller c = omega arith
-
 pub loop-i-preserved : goal.loop-i-preserved
 loop-i-preserved c =
     let text = c.args.text.now in
     let i = c.loop-i.i in
     let to = c.args.to in
     let e = sym c.is_digit.ensures in
-    elim c.if-is_digit.branch [ then-is_digit w ↦ (omega arith, omega arith, omega (arith, count_digit text i to (omega arith) (omega arith) (e ∙ w.if-is_digit.true))) | else-is_digit w ↦ (omega arith, omega arith, omega (arith, count_other text i to (omega arith) (omega arith) (e ∙ w.if-is_digit.false))) ]
+    elim c.if-is_digit.branch [ then-is_digit w ↦ (omega arith, omega (arith, count_digit text i to (omega arith) (omega arith) (e ∙ w.if-is_digit.true))) | else-is_digit w ↦ (omega arith, omega (arith, count_other text i to (omega arith) (omega arith) (e ∙ w.if-is_digit.false))) ]
 
 pub returns : goal.returns
-returns c = omega (arith, count_none c.args.text.now _ _ c.loop-i-test.false)
+returns c = omega (arith, count_none c.args.text.now _ _ c.loop-i-test.false, c.loop-i.invariant)

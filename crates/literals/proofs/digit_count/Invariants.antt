@@ -1,7 +1,6 @@
--- `literals::digit_count` meets its contract. The loop's invariant: what is counted, with the digits that are left, is all of them. The
--- measure is what is left of the part.
+-- `literals::digit_count` meets its contract. The loop's invariant: what is counted, with the digits that are left, is all of them.
 -- Assumes nothing.
-use Prim.Native.Nat.{◌+◌, ◌-◌, ◌≤◌}
+use Prim.Native.Nat.{◌+◌, ◌≤◌}
 use mathlib.Core.Path.{◌≡◌}
 use lib.ListN.{length}
 use Rattle.text.specs.Tokens.{between}
@@ -10,7 +9,4 @@ use Rattle.literals.proofs.digit_count.Given as goal
 
 abbrev pub invariant-loop-i : goal.invariant-loop-i
 invariant-loop-i l =
-    (l.i ≤ l.to) × (l.count ≤ l.i) × (l.count + length (digits (between l.text l.i l.to)) ≡ length (digits (between l.text l.from l.to)))
-
-abbrev pub decreases-loop-i : goal.decreases-loop-i
-decreases-loop-i l = l.to - l.i
+    (l.count ≤ l.i) × (l.count + length (digits (between l.text l.i l.to)) ≡ length (digits (between l.text l.from l.to)))

@@ -1,30 +1,13 @@
--- The answers of `literals::front_end`: what its code leaves to show, by the invariants beside this file. Assumes nothing.
+-- `literals::front_end` meets its contract: the part is the front of the text behind its first bytes. Assumes nothing.
 use native.Mathlib.Omega.{arith}
-use mathlib.Core.Path.{refl, sym, ◌∙◌}
-use Rattle.literals.proofs.Digits.{front_digit, front_other, front_none}
+use mathlib.Core.Path.{◌∙◌}
+use lib.ListN.{length-take}
+use Rattle.text.specs.Tokens.{run_end}
+use Rattle.literals.proofs.Parts.{part_of_front}
 use Rattle.literals.proofs.front_end.Goals as goal
 
-pub loop-i-init : goal.loop-i-init
-loop-i-init c = (omega arith, refl)
-
-pub bounds-text-i : goal.bounds-text-i
-bounds-text-i c = omega arith
-
-pub returns-then-not-is_digit : goal.returns-then-not-is_digit
-returns-then-not-is_digit c =
-    let e = sym c.is_digit.ensures ∙ c.if-not-is_digit.true in
-    (omega (arith, front_other c.args.text.now c.loop-i.i c.args.to (omega arith) (omega arith) e), omega arith)
-
-pub overflow_add-i : goal.overflow_add-i
-overflow_add-i c = omega arith
-
-pub loop-i-smaller : goal.loop-i-smaller
-loop-i-smaller c = omega arith
-
-pub loop-i-preserved : goal.loop-i-preserved
-loop-i-preserved c =
-    let e = sym c.is_digit.ensures ∙ c.if-not-is_digit.false in
-    (omega arith, omega (arith, front_digit c.args.text.now c.loop-i.i c.args.to (omega arith) (omega arith) e))
-
 pub returns : goal.returns
-returns c = (omega (arith, front_none c.args.text.now _ _ c.loop-i-test.false), omega arith)
+unfolding run_end
+returns c =
+    let part = part_of_front c.args.text.now c.args.from c.args.to (omega arith) in
+    (c.run_end.ensures.0 ∙ rw part, omega (arith, c.run_end.ensures.2, length-take c.args.to c.args.text.now))

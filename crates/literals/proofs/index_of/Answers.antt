@@ -1,34 +1,19 @@
--- The answers of `literals::index_of`: what its code leaves to show, by the invariants beside this file. Assumes nothing.
-use Prim.Native.Nat.{◌-◌}
-use native.Mathlib.Nat.{zero-add}
-use native.Mathlib.Omega.{arith}
-use mathlib.Core.Path.{◌≡◌}
-use lib.Ieee.{nan}
-use Rattle.literals.proofs.Indices.{index_here, index_behind, index_none}
+-- `literals::index_of` meets its contract: where the value stands first is its place. Assumes nothing.
+use Rattle.std.proofs.Common.{rules, tests, ◌≡◌, List, take, true, false, sym, ◌∙◌}
+use Rattle.std.proofs.lemmas.Iterator.{IsFirst-from_position, YieldsList-from_slice, index_from_first}
+use lib.Ieee.{Float}
+use lib.Ieee as Ieee
+use Rattle.text.specs.Reading.{index_of}
+use Rattle.literals.proofs.Indices.{index_none, index_here, index_behind}
 use Rattle.literals.proofs.index_of.Goals as goal
 
-pub loop-i-init : goal.loop-i-init
-loop-i-init c = let e : c.args.n - 0 ≡ c.args.n = omega arith in (omega arith, rw e (zero-add _))
-
-pub bounds-values-i : goal.bounds-values-i
-bounds-values-i c = omega arith
-
-pub returns-then-values-i : goal.returns-then-values-i
-returns-then-values-i c =
-    let args = c.args in
-    omega (arith, index_here args.values.now nan args.x c.loop-i.i args.n (omega arith) (omega arith) c.if-values-i.true)
-
-pub overflow_add-i : goal.overflow_add-i
-overflow_add-i c = omega arith
-
-pub loop-i-smaller : goal.loop-i-smaller
-loop-i-smaller c = omega arith
-
-pub loop-i-preserved : goal.loop-i-preserved
-loop-i-preserved c =
-    let args = c.args in
-    let e = index_behind args.values.now nan args.x c.loop-i.i args.n (omega arith) (omega arith) c.if-values-i.false in
-    (omega arith, omega arith)
-
 pub returns : goal.returns
-returns c = omega (arith, index_none c.args.values.now c.args.x _ _ c.loop-i-test.false)
+returns c =
+    let x : Float = c.args.x in
+    let seen : List Float = take c.args.n c.args.values.now in
+    let first = IsFirst-from_position _ _ _ (λ v. Ieee.eq v x ≡ true) (λ v. Ieee.eq v x ≡ false) c.position.ensures.ran
+    (YieldsList-from_slice seen cc) (λ v q k. search (rules, tests)) (λ v q k. search (rules, tests)) in
+    c.unwrap_or.ensures
+    ∙ sym
+    (index_from_first (λ (vs : List Float). index_of vs x) (λ v. Ieee.eq v x ≡ true) (λ v. Ieee.eq v x ≡ false)
+    (index_none x) (λ v vs h. index_here v x vs h) (λ v vs h. index_behind v x vs h) seen c.position.result first)

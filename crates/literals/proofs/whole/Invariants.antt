@@ -1,7 +1,6 @@
 -- `literals::whole` meets its contract. The loop's invariant: the digits that are left, behind those of n, make the whole number, which is
--- small enough for n to be so too. The measure is what is left of the part.
+-- small enough for n to be so too.
 -- Assumes nothing.
-use Prim.Native.Nat.{◌-◌, ◌≤◌}
 use mathlib.Core.Path.{◌≡◌}
 use Rattle.decimal.specs.Decimal.{number_from, number}
 use Rattle.text.specs.Tokens.{between}
@@ -9,7 +8,4 @@ use Rattle.text.specs.Limited.{digits}
 use Rattle.literals.proofs.whole.Given as goal
 
 abbrev pub invariant-loop-i : goal.invariant-loop-i
-invariant-loop-i l = (l.i ≤ l.to) × (number_from l.n (digits (between l.text l.i l.to)) ≡ number (digits (between l.text l.from l.to)))
-
-abbrev pub decreases-loop-i : goal.decreases-loop-i
-decreases-loop-i l = l.to - l.i
+invariant-loop-i l = (number_from l.n (digits (between l.text l.i l.to)) ≡ number (digits (between l.text l.from l.to)))

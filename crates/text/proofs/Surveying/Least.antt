@@ -1,6 +1,7 @@
 -- The least fault and the most urgent one are the same, and its urgency tells its number and its byte; every fault of a text has a number
 -- from 24 to 26 and a byte of the text, or the byte behind it.
 -- Assumes nothing.
+use Rattle.text.specs.declared.Run.TheVariants.{Spaces}
 use Rattle.text.specs.declared.Function.{Function}
 use Rattle.text.specs.declared.Function.TheVariants.{PositionCall, LastCall, CountCall, NotCall, BooleanCall, OtherCall}
 use Prim.Native.Nat.{ℕ, zero, suc, ◌+◌, ◌*◌, ◌≤◌, ◌<◌, max}
@@ -249,11 +250,11 @@ tokens_inside : (fuel : ℕ) (text : List ℕ) (i : ℕ) (due : Bool) → Inside
 unfolding tokens_from
 tokens_inside zero text i due = tt
 tokens_inside (suc fuel) text i due =
-    inside_either (length text) (ltb (run_end 0 text i) (length text)) _ []
+    inside_either (length text) (ltb (run_end Spaces text i) (length text)) _ []
     (λ e. (
-      ltb-true (run_end 0 text i) (length text) e,
-      inside_either (length text) (eqb (lexeme text (run_end 0 text i) due).kind (code unknown)) [] _ (λ q. tt)
-          (tokens_inside fuel text (lexeme text (run_end 0 text i) due).end (operator_due (lexeme text (run_end 0 text i) due).kind)),
+      ltb-true (run_end Spaces text i) (length text) e,
+      inside_either (length text) (eqb (lexeme text (run_end Spaces text i) due).kind (code unknown)) [] _ (λ q. tt)
+          (tokens_inside fuel text (lexeme text (run_end Spaces text i) due).end (operator_due (lexeme text (run_end Spaces text i) due).kind)),
     ))
     tt
 

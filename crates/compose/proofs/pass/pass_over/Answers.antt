@@ -1,4 +1,5 @@
 -- The answers of `compose::pass::pass_over`: what its code leaves to show, by the invariants beside this file. Assumes nothing.
+use Rattle.text.specs.declared.Run.TheVariants.{Spaces}
 use Prim.Native.Nat.{ℕ}
 use native.Mathlib.Omega.{arith}
 use mathlib.Core.Path.{sym, ◌∙◌, ap}
@@ -72,7 +73,7 @@ loop-next-smaller c =
       takes.0,
       takes.1,
       found.begins,
-      run_behind 0
+      run_behind Spaces
           c.args.text.now c.loop-next.next.end,
     )
 

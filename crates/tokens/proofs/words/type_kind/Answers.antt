@@ -1,30 +1,26 @@
--- `tokens::words::type_kind` meets its contract: its table has the classes of the words of its list.
--- Assumes nothing.
-use Prim.Native.Nat.{◌≤◌}
+-- `tokens::words::type_kind` meets its contract: each node type has its class, and any other word is a function's name. Assumes nothing.
 use native.Mathlib.Omega.{arith}
-use borrow.Author.Rules.{rules}
-use Rattle.names.specs.Names.{lines_from, names_of}
-use Rattle.text.specs.Tokens.{node_type, node_types, code}
-use Rattle.tokens.specs.Sets.{ended}
-use Rattle.tokens.proofs.Sought.{position_most, class_read}
+use mathlib.Core.Path.{sym, ◌∙◌}
+use Rattle.text.specs.Tokens.{node_types, code}
+use Rattle.tokens.proofs.Sought.{typed, untyped}
 use Rattle.tokens.proofs.words.type_kind.Goals as goal
 
-pub word_in-number-requires : goal.word_in-number-requires
-unfolding ended
-word_in-number-requires c = (tt, search rules, search rules)
+pub returns-in-0 : goal.returns-in-0
+unfolding node_types code
+returns-in-0 c = typed 0 _ (sym c.in-0.is ∙ c.word_in.ensures)
 
-pub offset_bounds-number : goal.offset_bounds-number
-unfolding names_of lines_from
-offset_bounds-number c =
-    let most : c.word_in-number.result ≤ 4 = rw c.word_in-number.ensures (position_most _ _) in
-    omega (arith, most)
+pub returns-in-1 : goal.returns-in-1
+unfolding node_types code
+returns-in-1 c = typed 1 _ (sym c.in-1.is ∙ c.word_in.ensures)
 
-pub bounds-number : goal.bounds-number
-unfolding names_of lines_from
-bounds-number c =
-    let most : c.word_in-number.result ≤ 4 = rw c.word_in-number.ensures (position_most _ _) in
-    omega (arith, most)
+pub returns-in-2 : goal.returns-in-2
+unfolding node_types code
+returns-in-2 c = typed 2 _ (sym c.in-2.is ∙ c.word_in.ensures)
 
-pub returns : goal.returns
-unfolding node_type node_types code names_of lines_from
-returns c = rw c.word_in-number.ensures (class_read _ _ _ _ (omega arith))
+pub returns-in-3 : goal.returns-in-3
+unfolding node_types code
+returns-in-3 c = typed 3 _ (sym c.in-3.is ∙ c.word_in.ensures)
+
+pub returns-in_default : goal.returns-in_default
+unfolding node_types code
+returns-in_default c = untyped c.word_in.result _ (omega arith) c.word_in.ensures
