@@ -1,13 +1,11 @@
 -- Laws of what a chain of steps may come by: no steps, one step more, and from the active rows.
 -- Assumes nothing.
-use Prim.Native.Nat.{ℕ, ◌-◌, ◌<◌}
-use mathlib.Core.Path.{◌≡◌, ◌∙◌}
-use mathlib.Core.Bool.{Bool, true, false, ◌&&◌, or-true}
-use mathlib.Core.List.{List}
-use lib.Dec.{eqb}
-use lib.ListN.{get_or}
+use Rattle.std.proofs.Common.{◌≡◌, refl, ◌∙◌, ℕ, ◌-◌, ◌<◌, Bool, true, false, ◌&&◌, List, get_or, eqb}
+use mathlib.Core.Bool.{or-true}
 use Rattle.meaning.specs.Table.{rows}
-use Rattle.meaning.specs.Axis.{axis_of, on}
+use Rattle.meaning.specs.Axis.{axis_of, test_of, on}
+use Rattle.meaning.specs.declared.Axis.{Axis}
+use Rattle.meaning.specs.declared.Test.{Test}
 use Rattle.meaning.specs.Rows.{first_link}
 use Rattle.meaning.specs.Tree.{Tree, tree, index_or_axis, test_at}
 use Rattle.meaning.proofs.Windows.{some_below}
@@ -27,10 +25,10 @@ module _ (edition : ℕ) (t p : List ℕ) (l : ℕ) where
   }
 
   -- those before it, then its axis and its test; what they reach is near too
-  pub covered_row : (some-row : (l ≡ 0) → ⊥) (a c d : ℕ) → a ≡ first_link p (l - 1) → c ≡ index_or_axis p (l - 1) → d ≡ test_at p (l - 1) → (entry mid hits exit before between after : List Bool)
-      → Covered edition t (tree p a) entry mid before between → Hits t (on t (axis_of c)) mid hits → Sifted edition t c d hits exit → Joined t exit between after → Covered edition t (tree p l) entry exit before after
+  pub covered_row : (some-row : (l ≡ 0) → ⊥) (a : ℕ) (axis : Axis) (asked : Test) → a ≡ first_link p (l - 1) → axis ≡ axis_of (index_or_axis p (l - 1)) → asked ≡ test_of (test_at p (l - 1)) → (entry mid hits exit before between after : List Bool)
+      → Covered edition t (tree p a) entry mid before between → Hits t (on t axis) mid hits → Sifted edition t axis asked hits exit → Joined t exit between after → Covered edition t (tree p l) entry exit before after
   unfolding Hits hit Sifted Joined
-  covered_row some-row a c d is-first e f entry mid hits exit before between after first h s j = record { reached = marked; kept = λ y k r. more y k (first.kept y k r); covers = near }
+  covered_row some-row a axis asked is-first e f entry mid hits exit before between after first h s j = record { reached = marked; kept = λ y k r. more y k (first.kept y k r); covers = near }
     where
       from : ℕ → Bool
       from = λ x. get_or entry x false
@@ -38,7 +36,7 @@ module _ (edition : ℕ) (t p : List ℕ) (l : ℕ) where
       marked : (y : ℕ) → y < rows t → get_or exit y false ≡ ahead edition t (tree p l) from y
       marked y k =
           s y k
-          ∙ rw (h y k, some_below (λ x. get_or mid x false && on t (axis_of c) x y) (λ x. ahead edition t (tree p a) from x && on t (axis_of c) x y) (rows t) (λ x m. rw (first.reached x m))) (ahead_row edition t p l some-row a is-first c d e f from y)
+          ∙ rw (h y k, some_below (λ x. get_or mid x false && on t axis x y) (λ x. ahead edition t (tree p a) from x && on t axis x y) (rows t) (λ x m. rw (first.reached x m)), e, f) (ahead_row edition t p l some-row a is-first _ _ refl refl from y)
 
       more : (y : ℕ) → y < rows t → get_or between y false ≡ true → get_or after y false ≡ true
       more y k r = j y k ∙ rw r

@@ -9,7 +9,7 @@ ghost use Rattle.cover.specs.Covered.{Covered, CoversActive};
 
 use marks::{join, sift};
 use meaning::MOST_ROWS;
-use path::{first_link, index_or_axis, test_at};
+use path::{axis_at, first_link, node_test_at};
 use reach::reach;
 use sieve::retain;
 use table::row_count;
@@ -32,9 +32,9 @@ fn cover(
     let row = link - 1;
     let before = first_link(path, row);
     cover(edition, table, path, before, marks, near);
-    let axis = index_or_axis(path, row);
+    let axis = axis_at(path, row);
+    let test = node_test_at(path, row);
     reach(table, axis, marks);
-    let test = test_at(path, row);
     sift(edition, table, axis, test, marks);
     join(table, marks, near);
 }
