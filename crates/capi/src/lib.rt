@@ -2,14 +2,15 @@
 // Each returns the documents' number and stores its place, but for the two that have none; the contracts pass on what the library promises.
 #![tactic(auto)]
 
+ghost use Rattle.std.specs.Prelude.{◌≡◌};
 ghost use Rattle.meaning.specs.Table.{most_rows};
-ghost use Rattle.meaning.specs.Answers.{answer};
+ghost use Rattle.meaning.specs.Answers.{answer, told};
 ghost use Rattle.meaning.specs.View.{part_from};
 ghost use Rattle.meaning.specs.Promises.{ChecksTable, AnswersPlace, ChecksPath, EvaluatesPath, TurnsPath, FindsPart};
 ghost use Rattle.files.specs.Answers.{ReadsTable, WritesTable};
 
 use files::{read_table, write_table};
-use meaning::Answer;
+use meaning::{Answer, Refusal};
 use path_check::check_path;
 use place::axis_place;
 use select::evaluate;
@@ -17,13 +18,20 @@ use table_check::check_table;
 use turn::turn;
 use view::ends_of;
 
+// Gives an outcome's number, and stores its place.
+fn tell(outcome: Result<u32, Refusal>, place: &mut u32) -> u32
+    ensures { answer result place.new ≡ told outcome }
+{
+    let answer = Answer::from(outcome);
+    *place = answer.place;
+    answer.number
+}
+
 #[unsafe(no_mangle)]
 pub extern "C" fn bt_check_table(table: &[u32], place: &mut u32) -> u32
     ensures { ChecksTable table.now (answer result place.new) }
 {
-    let answer = Answer::from(check_table(table));
-    *place = answer.place;
-    answer.number
+    tell(check_table(table), place)
 }
 
 // The place itself: there is nothing to refuse.
@@ -38,9 +46,7 @@ pub extern "C" fn bt_axis_place(table: &[u32], axis: u32, x: u32, y: u32) -> u32
 pub extern "C" fn bt_check_path(path: &[u32], literals: &[f64], place: &mut u32) -> u32
     ensures { ChecksPath path.now literals.now (answer result place.new) }
 {
-    let answer = check_path(path, literals);
-    *place = answer.place;
-    answer.number
+    tell(check_path(path, literals), place)
 }
 
 #[unsafe(no_mangle)]
@@ -55,18 +61,15 @@ pub extern "C" fn bt_evaluate(
 ) -> u32
     ensures { EvaluatesPath edition table.now path.now literals.now start out.old (answer result place.new) out.new }
 {
-    let answer = evaluate(edition, table, path, literals, start, out);
-    *place = answer.place;
-    answer.number
+    let outcome = evaluate(edition, table, path, literals, start, out);
+    tell(outcome, place)
 }
 
 #[unsafe(no_mangle)]
 pub extern "C" fn bt_turn(path: &[u32], literals: &[f64], out: &mut [u32], place: &mut u32) -> u32
     ensures { TurnsPath path.now literals.now out.old (answer result place.new) out.new }
 {
-    let answer = turn(path, literals, out);
-    *place = answer.place;
-    answer.number
+    tell(turn(path, literals, out), place)
 }
 
 // The part of the list inside a node's subtree, by its two ends.

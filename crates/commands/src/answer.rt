@@ -70,14 +70,14 @@ pub fn answer_evaluate(
     let mut space = [UNTOUCHED; MOST_ENTRIES];
     let room = count_of(size.value, MOST_ENTRIES);
     let out = &mut space[..room];
-    let answer = select::evaluate(
+    let answer = Answer::from(select::evaluate(
         small(edition.value),
         table,
         path,
         literals,
         small(start.value),
         out,
-    );
+    ));
     write_answer(
         rt,
         line,

@@ -11,6 +11,8 @@ use lib.Ieee.{Float}
 use Rattle.meaning.specs.Lists.{some, up_to}
 use Rattle.meaning.specs.Table.{rows}
 use Rattle.meaning.specs.Axis.{axis_of, test_of, on, principal, passes}
+use Rattle.meaning.specs.declared.Axis.{Axis}
+use Rattle.meaning.specs.declared.Test.{Test}
 use Rattle.meaning.specs.declared.Op.{Op}
 use Rattle.meaning.specs.Rows.{first_link, second_link}
 use Rattle.meaning.specs.Tree.{Tree, none, node, tree, index_or_axis, test_at}
@@ -78,13 +80,13 @@ module _ (edition : ℕ) (t : List ℕ) (literals : List Float) where
   -- the nodes from which a chain of steps leads, over nodes that are near alone, to a good node
   unfoldable pub backs_near : (ℕ → Bool) → Tree → (ℕ → Bool) → ℕ → Bool
   backs_near near none good = good
-  backs_near near (node op a b c d) good = backs_near near a (before edition t literals c d b (λ z. good z && near z))
+  backs_near near (node op a b c d) good = backs_near near a (before edition t literals (axis_of c) (test_of d) b (λ z. good z && near z))
 
   -- what is reached back over what is near depends on the good rows alone
   pub near_agree : (near : ℕ → Bool) (s : Tree) (f g : ℕ → Bool) → ((z : ℕ) → z < rows t → f z ≡ g z) → (y : ℕ) → y < rows t → backs_near near s f y ≡ backs_near near s g y
   unfolding backs_near before
   near_agree near none f g h y l = h y l
-  near_agree near (node op a b c d) f g h y l = near_agree near a (before edition t literals c d b (λ z. f z && near z)) (before edition t literals c d b (λ z. g z && near z)) (λ w m. some_below _ _ (rows t) (λ z k. rw (h z k))) y l
+  near_agree near (node op a b c d) f g h y l = near_agree near a (before edition t literals (axis_of c) (test_of d) b (λ z. f z && near z)) (before edition t literals (axis_of c) (test_of d) b (λ z. g z && near z)) (λ w m. some_below _ _ (rows t) (λ z k. rw (h z k))) y l
 
   -- for the nodes whose chain comes by near ones alone it is the same as over all nodes
   pub near_backs : (s : Tree) (near from : ℕ → Bool) → Covers edition t near s from → (f g : ℕ → Bool) → ((z : ℕ) → z < rows t → ahead edition t s from z ≡ true → f z ≡ g z)
@@ -92,9 +94,9 @@ module _ (edition : ℕ) (t : List ℕ) (literals : List Float) where
   unfolding backs_near backs before Covers
   near_backs none near from k f g h y l e = h y l (unfold ahead in e)
   near_backs (node op a b c d) near from k f g h y l e =
-      near_backs a near from k.0 (before edition t literals c d b (λ z. f z && near z)) (before edition t literals c d b g) one y l e
+      near_backs a near from k.0 (before edition t literals (axis_of c) (test_of d) b (λ z. f z && near z)) (before edition t literals (axis_of c) (test_of d) b g) one y l e
     where
-      one : (w : ℕ) → w < rows t → ahead edition t a from w ≡ true → before edition t literals c d b (λ z. f z && near z) w ≡ before edition t literals c d b g w
+      one : (w : ℕ) → w < rows t → ahead edition t a from w ≡ true → before edition t literals (axis_of c) (test_of d) b (λ z. f z && near z) w ≡ before edition t literals (axis_of c) (test_of d) b g w
       one w m r = some_below _ _ (rows t) (λ z n. guarded (f z) (near z) (g z) (passes edition t (principal (axis_of c)) (test_of d) z) (ok edition t literals b z) (on t (axis_of c) w z)
           (λ o p. let x : ahead edition t (node op a b c d) from z ≡ true = ahead_more edition t op a b c d from w z m r o p in (k.1 z n x, h z n x)))
 
@@ -127,7 +129,7 @@ module _ (edition : ℕ) (t : List ℕ) (literals : List Float) (p : List ℕ) (
   near_none good y e = rw (e, tree_zero p)
 
   -- a step: one step back from the near ones, then those before it
-  pub near_row : (some-row : (l ≡ 0) → ⊥) (a b c d : ℕ) → a ≡ first_link p (l - 1) → b ≡ second_link p (l - 1) → c ≡ index_or_axis p (l - 1) → d ≡ test_at p (l - 1) → (good : ℕ → Bool) (y : ℕ)
-      → backs_near edition t literals near (tree p a) (before edition t literals c d (tree p b) (λ z. good z && near z)) y ≡ backs_near edition t literals near (tree p l) good y
+  pub near_row : (some-row : (l ≡ 0) → ⊥) (a b : ℕ) (axis : Axis) (u : Test) → a ≡ first_link p (l - 1) → b ≡ second_link p (l - 1) → axis ≡ axis_of (index_or_axis p (l - 1)) → u ≡ test_of (test_at p (l - 1)) → (good : ℕ → Bool) (y : ℕ)
+      → backs_near edition t literals near (tree p a) (before edition t literals axis u (tree p b) (λ z. good z && near z)) y ≡ backs_near edition t literals near (tree p l) good y
   unfolding backs_near
-  near_row some-row a b c d is-first is-second e f good y = rw (tree_row p l some-row, ← is-first, ← is-second, ← e, ← f)
+  near_row some-row a b axis u is-first is-second e f good y = rw (tree_row p l some-row, ← is-first, ← is-second, e, f)

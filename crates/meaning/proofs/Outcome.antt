@@ -13,11 +13,33 @@ use Rattle.meaning.specs.Table.{rows, most_rows}
 use Rattle.meaning.specs.Rows.{rows_of, most_path_rows}
 use Rattle.meaning.specs.Tree.{tree}
 use Rattle.meaning.specs.Meaning.{select}
-use Rattle.meaning.specs.Answers.{answer, check, table_answer, path_answer, is_edition, selected, handed, evaluation, output, evaluated}
+use Rattle.meaning.specs.Answers.{answer, refused, told, check, table_answer, path_answer, is_edition, selected, handed, evaluation, output, evaluated}
 use Rattle.meaning.specs.Promises.{EvaluatesPath}
 use Rattle.meaning.specs.declared.Answer.{Answer}
+use Rattle.meaning.specs.declared.Refusal.{Refusal}
+use Rattle.meaning.specs.declared.Refusal.TheVariants.{TableLength, BrokenRow, PathLength, BadLiteral, BrokenPathRow, TooDeep, NoSuchNode, NoRoom, StepCounts, AbsolutePath, NoRoomToTurn, StepOnAttributes, NoSuchEdition}
 use Rattle.meaning.proofs.Tables.{few_rows}
 use Rattle.meaning.proofs.Checks.{table_passes, table_stops, table_accepted, path_accepted, path_passes, path_stops, most_rows_lem}
+
+-- the number of no refusal is 0
+pub refusal_number : (r : Refusal) → (refused r).number ≡ 0 → ⊥
+refusal_number TableLength z = omega (arith, z)
+refusal_number (BrokenRow i) z = omega (arith, z)
+refusal_number PathLength z = omega (arith, z)
+refusal_number (BadLiteral i) z = omega (arith, z)
+refusal_number (BrokenPathRow r) z = omega (arith, z)
+refusal_number TooDeep z = omega (arith, z)
+refusal_number (NoSuchNode x) z = omega (arith, z)
+refusal_number (NoRoom n) z = omega (arith, z)
+refusal_number (StepCounts k) z = omega (arith, z)
+refusal_number AbsolutePath z = omega (arith, z)
+refusal_number (NoRoomToTurn n) z = omega (arith, z)
+refusal_number (StepOnAttributes k) z = omega (arith, z)
+refusal_number (NoSuchEdition edition) z = omega (arith, z)
+
+-- an answer that a refusal is has no 0
+refused_number : (r : Refusal) (a : Answer) → refused r ≡ a → a.number ≡ 0 → ⊥
+refused_number r a e z = refusal_number r (ap (λ (a : Answer). a.number) e ∙ z)
 
 -- a table whose answer is 0 has at most 8,192 rows, a path whose answer is 0 at most 256
 pub table_fits : (t : List ℕ) → (table_answer t).number ≡ 0 → rows t ≤ most_rows
@@ -31,26 +53,26 @@ module _ (edition : ℕ) (t p : List ℕ) (literals : List Float) (start : ℕ) 
   abbrev pub Promised : Answer → List ℕ → Type 0
   Promised = EvaluatesPath edition t p literals start out
 
-  -- a number that is not 0 leaves the output as it was
-  refused : (a : Answer) → a ≡ evaluation edition t p literals start (length out) → (a.number ≡ 0 → ⊥) → Promised a out
+  -- a refusal leaves the output as it was
+  unwritten : (r : Refusal) → refused r ≡ evaluation edition t p literals start (length out) → Promised (refused r) out
   unfolding evaluated output
-  refused a e f = (e, rw (← e, ne_eqb a.number 0 f))
+  unwritten r e = (e, rw (← e, ne_eqb (refused r).number 0 (refusal_number r)))
 
   -- 14: no edition
-  pub edition_refused : (a : Answer) (known : Bool) → known ≡ is_edition edition → known ≡ false → a ≡ answer 14 edition → Promised a out
+  pub edition_refused : is_edition edition ≡ false → Promised (answer 14 edition) out
   unfolding evaluation
-  edition_refused a known is_Known h e = refused a (rw (← is_Known, h) e) (λ z. absurd (omega (arith, ap (λ (a : Answer). a.number) e)))
+  edition_refused h = unwritten (NoSuchEdition edition) (rw h)
 
   -- what an edition's evaluation gives is what the checks behind that of the edition give
   module _ (known : is_edition edition ≡ true) where
-    pub table_refused : (a : Answer) → a ≡ table_answer t → (a.number ≡ 0 → ⊥) → Promised a out
+    pub table_refused : (r : Refusal) → refused r ≡ table_answer t → Promised (refused r) out
     unfolding evaluation
-    table_refused a e f = refused a (rw known (e ∙ sym (table_stops t (λ z. f (ap (λ (a : Answer). a.number) e ∙ z)) _))) f
+    table_refused r e = unwritten r (rw known (e ∙ sym (table_stops t (refused_number r (table_answer t) e) _)))
 
     module _ (table-ok : (table_answer t).number ≡ 0) where
-      pub path_refused : (a : Answer) → a ≡ path_answer p literals → (a.number ≡ 0 → ⊥) → Promised a out
+      pub path_refused : (r : Refusal) → refused r ≡ path_answer p literals → Promised (refused r) out
       unfolding evaluation
-      path_refused a e f = refused a (rw known (e ∙ sym (table_passes t table-ok _ ∙ path_stops p literals (λ z. f (ap (λ (a : Answer). a.number) e ∙ z)) _))) f
+      path_refused r e = unwritten r (rw known (e ∙ sym (table_passes t table-ok _ ∙ path_stops p literals (refused_number r (path_answer p literals) e) _)))
 
       module _ (path-ok : (path_answer p literals).number ≡ 0) where
         accepted_on : (a : Answer) → a ≡ check (leb (rows t) start) 7 start (handed (selected edition t p literals start) (length out)) → a ≡ evaluation edition t p literals start (length out)
@@ -58,8 +80,8 @@ module _ (edition : ℕ) (t p : List ℕ) (literals : List Float) (start : ℕ) 
         accepted_on a e = rw known (e ∙ sym (table_passes t table-ok _ ∙ path_passes p literals path-ok _))
 
         -- 7: the start node is not below the row count
-        pub start_refused : (a : Answer) → rows t ≤ start → a ≡ answer 7 start → Promised a out
-        start_refused a h e = refused a (accepted_on a (rw (le-leb (rows t) start h) e)) (λ z. absurd (omega (arith, ap (λ (a : Answer). a.number) e)))
+        pub start_refused : rows t ≤ start → Promised (answer 7 start) out
+        start_refused h = unwritten (NoSuchNode start) (accepted_on (answer 7 start) (rw (le-leb (rows t) start h)))
 
         -- 8 where more are selected than the output holds; 0 with what is selected at the front, and the rest as it was
         pub all_handed : start < rows t → (l : ℕ) → l ≡ rows_of p → (s : List ℕ) → s ≡ select edition t literals (tree p l) start → (a : Answer) (out' : List ℕ) → a ≡ handed s (length out) → out' ≡ output a s out → Promised a out'

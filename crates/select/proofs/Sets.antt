@@ -14,7 +14,11 @@ use borrow.Author.Tests.{eq-eqb}
 use Rattle.meaning.specs.Lists.{up_to, some, has}
 use Rattle.meaning.specs.Table.{rows}
 use Rattle.meaning.specs.Axis.{axis_of, test_of, on, principal, passes}
-use Rattle.meaning.specs.Rows.{field, first_link, second_link}
+use Rattle.meaning.specs.declared.Axis.{Axis}
+use Rattle.meaning.specs.declared.Test.{Test}
+use Rattle.meaning.specs.declared.Op.{Op}
+use Rattle.meaning.specs.declared.Op.TheVariants.{Absolute, And, Exists, Negation, Or}
+use Rattle.meaning.specs.Rows.{op_at, first_link, second_link}
 use Rattle.meaning.specs.Tree.{Tree, tree, index_or_axis, test_at}
 use Rattle.meaning.specs.Meaning.{select, union}
 use Rattle.meaning.specs.Turning.{counting, counts}
@@ -35,30 +39,30 @@ use Rattle.select.specs.Sets.{Narrowed, Thinned, LedBy, Led}
 
 module _ (edition : ℕ) (t : List ℕ) (literals : List Float) where
   -- the rows that pass a test and the predicates behind it
-  sifted_narrowed : (c d : ℕ) (e : Tree) (entry mid exit : List Bool) → Sifted edition t c d entry mid → Narrowed edition t literals e mid exit → (y : ℕ) → y < rows t → get_or exit y false ≡ (get_or entry y false && fits edition t literals (principal (axis_of c)) (test_of d) e y)
+  sifted_narrowed : (axis : Axis) (u : Test) (e : Tree) (entry mid exit : List Bool) → Sifted edition t axis u entry mid → Narrowed edition t literals e mid exit → (y : ℕ) → y < rows t → get_or exit y false ≡ (get_or entry y false && fits edition t literals (principal axis) u e y)
   unfolding Sifted Narrowed
-  sifted_narrowed c d e entry mid exit s n y l = n y l ∙ rw (s y l) (and_assoc (get_or entry y false) (passes edition t (principal (axis_of c)) (test_of d) y) (ok edition t literals e y))
+  sifted_narrowed axis u e entry mid exit s n y l = n y l ∙ rw (s y l) (and_assoc (get_or entry y false) (passes edition t (principal axis) u y) (ok edition t literals e y))
 
   -- one step back: what is near, the test, the predicates, then to the nodes on whose axis it is
-  pub led_by : (c d : ℕ) (e : Tree) (near entry met mid next exit : List Bool) → Met t near entry met → Sifted edition t c d met mid → Narrowed edition t literals e mid next → Hits t (λ z w. on t (axis_of c) w z) next exit → LedBy edition t literals near e c d entry exit
+  pub led_by : (axis : Axis) (u : Test) (e : Tree) (near entry met mid next exit : List Bool) → Met t near entry met → Sifted edition t axis u met mid → Narrowed edition t literals e mid next → Hits t (λ z w. on t axis w z) next exit → LedBy edition t literals near e axis u entry exit
   unfolding LedBy Met Hits hit
-  led_by c d e near entry met mid next exit m s n h y l =
-      h y l ∙ before_by edition t literals c d e (λ z. get_or entry z false && get_or near z false) (λ z. get_or next z false) (λ z k. sifted_narrowed c d e met mid next s n z k ∙ rw (m z k)) y
+  led_by axis u e near entry met mid next exit m s n h y l =
+      h y l ∙ before_by edition t literals axis u e (λ z. get_or entry z false && get_or near z false) (λ z. get_or next z false) (λ z k. sifted_narrowed axis u e met mid next s n z k ∙ rw (m z k)) y
 
   -- one step forward that does not count: the axis, the test, the predicates
-  pub strode : (p : List ℕ) (b c d : ℕ) (entry reached mid exit : List Bool) → counting (tree p b) ≡ false → Hits t (on t (axis_of c)) entry reached → Sifted edition t c d reached mid → Narrowed edition t literals (tree p b) mid exit
-      → listed t exit ≡ union t (step_to edition t literals p b c d) (listed t entry)
+  pub strode : (p : List ℕ) (b : ℕ) (axis : Axis) (u : Test) (entry reached mid exit : List Bool) → counting (tree p b) ≡ false → Hits t (on t axis) entry reached → Sifted edition t axis u reached mid → Narrowed edition t literals (tree p b) mid exit
+      → listed t exit ≡ union t (step_to edition t literals p b axis u) (listed t entry)
   unfolding union listed Hits hit
-  strode p b c d entry reached mid exit free h s n = listed_by t exit (λ y. some (λ x. has (step_to edition t literals p b c d x) y) (listed t entry)) marked
+  strode p b axis u entry reached mid exit free h s n = listed_by t exit (λ y. some (λ x. has (step_to edition t literals p b axis u x) y) (listed t entry)) marked
     where
-      marked : (y : ℕ) → y < rows t → get_or exit y false ≡ some (λ x. has (step_to edition t literals p b c d x) y) (listed t entry)
+      marked : (y : ℕ) → y < rows t → get_or exit y false ≡ some (λ x. has (step_to edition t literals p b axis u x) y) (listed t entry)
       marked y l =
-          let good : Bool = fits edition t literals (principal (axis_of c)) (test_of d) (tree p b) y in
-          sifted_narrowed c d (tree p b) reached mid exit s n y l
+          let good : Bool = fits edition t literals (principal axis) u (tree p b) y in
+          sifted_narrowed axis u (tree p b) reached mid exit s n y l
           ∙ rw (h y l)
-          (sym (some_and (λ x. get_or entry x false && on t (axis_of c) x y) good (up_to (rows t)))
-          ∙ some_same (λ x. (get_or entry x false && on t (axis_of c) x y) && good) (λ x. get_or entry x false && has (step_to edition t literals p b c d x) y) (up_to (rows t)) (λ x. rw (free_step edition t literals (axis_of c) (test_of d) (tree p b) x y free, placed_on t (axis_of c) x y l) (and_assoc (get_or entry x false) (on t (axis_of c) x y) good))
-          ∙ sym (some_keep (λ x. has (step_to edition t literals p b c d x) y) (λ x. get_or entry x false) (up_to (rows t))))
+          (sym (some_and (λ x. get_or entry x false && on t axis x y) good (up_to (rows t)))
+          ∙ some_same (λ x. (get_or entry x false && on t axis x y) && good) (λ x. get_or entry x false && has (step_to edition t literals p b axis u x) y) (up_to (rows t)) (λ x. rw (free_step edition t literals axis u (tree p b) x y free, placed_on t axis x y l) (and_assoc (get_or entry x false) (on t axis x y) good))
+          ∙ sym (some_keep (λ x. has (step_to edition t literals p b axis u x) y) (λ x. get_or entry x false) (up_to (rows t))))
 
   -- a set is narrowed as states: all are active, the marked ones stay so, the predicates thin them, and what is active stays marked
   pub narrowed_by : (e : Tree) (n : ℕ) (entry exit : List Bool) (fresh settled thinned : List ℕ) → n ≡ rows t → ((y : ℕ) → y < n → state fresh y ≡ 2) → Sieved (λ y. get_or entry y false) 2 n fresh settled → Thinned edition t literals e settled thinned → Retained n 2 thinned entry exit
@@ -103,12 +107,12 @@ module _ (edition : ℕ) (t : List ℕ) (literals : List Float) (p : List ℕ) (
         ∙ rw (h y m, ← ok_row edition t literals p l some-row a is-first b is-second y) (and_assoc (eqb (state entry y) 2) (ok edition t literals (tree p a) y) (true_at edition t literals (tree p b) y))
 
     -- one step back, then those before it
-    pub led_row : (c d : ℕ) (near entry mid exit : List Bool) → c ≡ index_or_axis p (l - 1) → d ≡ test_at p (l - 1) → LedBy edition t literals near (tree p b) c d entry mid → Led edition t literals near (tree p a) mid exit → Led edition t literals near (tree p l) entry exit
+    pub led_row : (axis : Axis) (u : Test) (near entry mid exit : List Bool) → axis ≡ axis_of (index_or_axis p (l - 1)) → u ≡ test_of (test_at p (l - 1)) → LedBy edition t literals near (tree p b) axis u entry mid → Led edition t literals near (tree p a) mid exit → Led edition t literals near (tree p l) entry exit
     unfolding Led LedBy
-    led_row c d near entry mid exit e f h k y m =
+    led_row axis u near entry mid exit e f h k y m =
         k y m
-        ∙ near_agree edition t literals (λ z. get_or near z false) (tree p a) (λ z. get_or mid z false) (before edition t literals c d (tree p b) (λ z. get_or entry z false && get_or near z false)) h y m
-        ∙ near_row edition t literals p l (λ z. get_or near z false) some-row a b c d is-first is-second e f (λ z. get_or entry z false) y
+        ∙ near_agree edition t literals (λ z. get_or near z false) (tree p a) (λ z. get_or mid z false) (before edition t literals axis u (tree p b) (λ z. get_or entry z false && get_or near z false)) h y m
+        ∙ near_row edition t literals p l (λ z. get_or near z false) some-row a b axis u is-first is-second e f (λ z. get_or entry z false) y
 
 -- ---- whether a chain of steps leads anywhere, decided for all rows
 
@@ -127,23 +131,23 @@ module _ (edition : ℕ) (t : List ℕ) (literals : List Float) (s : Tree) (n ac
 
 -- ---- the existence of what a path selects, decided for all rows
 
-module _ (edition : ℕ) (t : List ℕ) (literals : List Float) (p : List ℕ) (l : ℕ) (some-row : (l ≡ 0) → ⊥) (exists : field p (l - 1) 0 ≡ 20) (a : ℕ) (is-path : a ≡ first_link p (l - 1)) (some-path : (a ≡ 0) → ⊥)
-    (op : ℕ) (is-op : op ≡ field p (a - 1) 0) (active : ℕ) (entry exit : List ℕ) where
+module _ (edition : ℕ) (t : List ℕ) (literals : List Float) (p : List ℕ) (l : ℕ) (some-row : (l ≡ 0) → ⊥) (exists : op_at p (l - 1) ≡ Exists) (a : ℕ) (is-path : a ≡ first_link p (l - 1)) (some-path : (a ≡ 0) → ⊥)
+    (op : Op) (is-op : op ≡ op_at p (a - 1)) (active : ℕ) (entry exit : List ℕ) where
   -- an absolute path, from any node
-  pub absolute_decided : op ≡ 23 → (k : ℕ) (r : Bool) (n : ℕ) → k ≡ length (select edition t literals (tree p a) 0) → r ≡ ltb 0 k → n ≡ rows t → Sieved (λ y. r) active n entry exit → Sieved (true_at edition t literals (tree p l)) active (rows t) entry exit
+  pub absolute_decided : op ≡ Absolute → (k : ℕ) (r : Bool) (n : ℕ) → k ≡ length (select edition t literals (tree p a) 0) → r ≡ ltb 0 k → n ≡ rows t → Sieved (λ y. r) active n entry exit → Sieved (true_at edition t literals (tree p l)) active (rows t) entry exit
   absolute_decided e k r n f g q h = sieved_agree active (rows t) entry exit (λ y. r) (true_at edition t literals (tree p l)) (rw q at h)
-      (λ y m i. g ∙ rw (f, absolute_row edition t literals p a some-path (first_link p (a - 1)) refl op is-op e 0 y) (exists_row edition t literals p l some-row a is-path (field p (l - 1) 0) refl exists y))
+      (λ y m i. g ∙ rw (f, absolute_row edition t literals p a some-path (first_link p (a - 1)) refl op is-op e 0 y) (exists_row edition t literals p l some-row a is-path (op_at p (l - 1)) refl exists y))
 
   -- a relative path whose steps do not count, backwards
-  pub relative_decided : (op ≡ 23 → ⊥) → (s : ℕ) → s ≡ first_link p (a - 1) → (r : Bool) → r ≡ counts (tree p s) → r ≡ false → Sieved (backs edition t literals (tree p s) (λ z. true)) active (rows t) entry exit → Sieved (true_at edition t literals (tree p l)) active (rows t) entry exit
+  pub relative_decided : (op ≡ Absolute → ⊥) → (s : ℕ) → s ≡ first_link p (a - 1) → (r : Bool) → r ≡ counts (tree p s) → r ≡ false → Sieved (backs edition t literals (tree p s) (λ z. true)) active (rows t) entry exit → Sieved (true_at edition t literals (tree p l)) active (rows t) entry exit
   relative_decided q s is-steps r f g h = sieved_agree active (rows t) entry exit (backs edition t literals (tree p s) (λ z. true)) (true_at edition t literals (tree p l)) h
-      (λ y m i. relative_row edition t literals p a some-path s is-steps op is-op q (sym f ∙ g) y m ∙ exists_row edition t literals p l some-row a is-path (field p (l - 1) 0) refl exists y)
+      (λ y m i. relative_row edition t literals p a some-path s is-steps op is-op q (sym f ∙ g) y m ∙ exists_row edition t literals p l some-row a is-path (op_at p (l - 1)) refl exists y)
 
 -- ---- and, or, not, decided for all rows
 
 module _ (edition : ℕ) (t : List ℕ) (literals : List Float) (p : List ℕ) (l : ℕ) (some-row : (l ≡ 0) → ⊥) (a : ℕ) (is-first : a ≡ first_link p (l - 1)) (active n : ℕ) (entry decided : List ℕ) (all : n ≡ rows t)
     (low : Bounded (rows t) active entry) (first : Sieved (true_at edition t literals (tree p a)) active (rows t) entry decided) where
-  module _ (any : Bool) (op : field p (l - 1) 0 ≡ cond any 17 16) (raised : List ℕ) (up : Recast n (cond any (active + 1) active) (active + 2) decided raised) where
+  module _ (any : Bool) (op : op_at p (l - 1) ≡ cond any Or And) (raised : List ℕ) (up : Recast n (cond any (active + 1) active) (active + 2) decided raised) where
     -- what is raised for the second operand is the highest
     pub raised_low : Bounded (rows t) (active + 2) raised
     raised_low = recast_bounded (rows t) decided raised (cond any (active + 1) active) (active + 2) (active + 1) (active + 2) (rw all at up) (sieved_bounded (rows t) entry decided (true_at edition t literals (tree p a)) active first low) (omega arith) (omega arith)
@@ -153,10 +157,10 @@ module _ (edition : ℕ) (t : List ℕ) (literals : List Float) (p : List ℕ) (
         → Sieved (true_at edition t literals (tree p l)) active (rows t) entry exit
     pair_decided b is-second both exit second down = sieved_agree active (rows t) entry exit _ (true_at edition t literals (tree p l))
         (pair_sieved active (rows t) (true_at edition t literals (tree p a)) entry decided low first (true_at edition t literals (tree p b)) raised both exit second (rw all at down) any (rw all at up))
-        (λ y m i. pair_row edition t literals p l some-row a is-first (field p (l - 1) 0) refl b is-second any op y)
+        (λ y m i. pair_row edition t literals p l some-row a is-first (op_at p (l - 1)) refl b is-second any op y)
 
   -- a not
-  pub not_decided : (exit : List ℕ) → field p (l - 1) 0 ≡ 18 → Exchanged n active decided exit → Sieved (true_at edition t literals (tree p l)) active (rows t) entry exit
+  pub not_decided : (exit : List ℕ) → op_at p (l - 1) ≡ Negation → Exchanged n active decided exit → Sieved (true_at edition t literals (tree p l)) active (rows t) entry exit
   not_decided exit op turn = sieved_agree active (rows t) entry exit _ (true_at edition t literals (tree p l))
       (not_sieved active (rows t) (true_at edition t literals (tree p a)) entry decided low first exit (rw all at turn))
-      (λ y m i. not_row edition t literals p l some-row a is-first (field p (l - 1) 0) refl op y)
+      (λ y m i. not_row edition t literals p l some-row a is-first (op_at p (l - 1)) refl op y)

@@ -3,6 +3,8 @@
 use Rattle.std.specs.Prelude.{ℕ, ◌<◌, ◌≡◌, Bool, false, ◌&&◌, List, eqb, get_or, Float}
 use Rattle.meaning.specs.Table.{rows}
 use Rattle.meaning.specs.Tree.{Tree}
+use Rattle.meaning.specs.declared.Axis.{Axis}
+use Rattle.meaning.specs.declared.Test.{Test}
 use Rattle.meaning.proofs.Free.{ok}
 use Rattle.meaning.proofs.Backward.{before}
 use Rattle.meaning.proofs.Near.{backs_near}
@@ -17,8 +19,8 @@ unfoldable pub Thinned : ℕ → List ℕ → List Float → Tree → List ℕ �
 Thinned edition t literals e entry exit = (y : ℕ) → y < rows t → eqb (state exit y) 2 ≡ (eqb (state entry y) 2 && ok edition t literals e y)
 
 -- the rows from which one step leads to a marked row that is near
-unfoldable pub LedBy : ℕ → List ℕ → List Float → List Bool → Tree → ℕ → ℕ → List Bool → List Bool → Type 0
-LedBy edition t literals near e c d entry exit = (y : ℕ) → y < rows t → get_or exit y false ≡ before edition t literals c d e (λ z. get_or entry z false && get_or near z false) y
+unfoldable pub LedBy : ℕ → List ℕ → List Float → List Bool → Tree → Axis → Test → List Bool → List Bool → Type 0
+LedBy edition t literals near e axis test entry exit = (y : ℕ) → y < rows t → get_or exit y false ≡ before edition t literals axis test e (λ z. get_or entry z false && get_or near z false) y
 
 -- the rows from which a chain of steps leads, over rows that are near alone, to a marked row
 unfoldable pub Led : ℕ → List ℕ → List Float → List Bool → Tree → List Bool → List Bool → Type 0

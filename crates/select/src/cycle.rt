@@ -5,7 +5,9 @@
 ghost use Rattle.std.specs.Prelude.{◌≡◌, true, false, ◌||◌, cond, ℕ, ◌+◌, ◌-◌, ◌*◌, ◌<◌, ◌≤◌, length, get_or, take};
 ghost use Rattle.meaning.specs.Lists.{has};
 ghost use Rattle.meaning.specs.Table.{rows, most_rows};
-ghost use Rattle.meaning.specs.Rows.{field, most_path_rows, second_link};
+ghost use Rattle.meaning.specs.declared.Op.TheVariants.{And, Exists, Negation, Or};
+ghost use Rattle.meaning.specs.Axis.{axis_of, test_of};
+ghost use Rattle.meaning.specs.Rows.{most_path_rows, op_at, second_link};
 ghost use Rattle.meaning.specs.Tree.{tree, index_or_axis, test_at};
 ghost use Rattle.meaning.specs.Turning as turning;
 ghost use Rattle.meaning.specs.Meaning as Meaning;
@@ -21,8 +23,8 @@ use candidates::list_candidates;
 use counting::{counting, counts, is_heavy, is_over_path};
 use cover::cover_active;
 use marks::{add_marks, copy_marks, count_marks, meet, sift, start_mark};
-use meaning::{Context, MOST_ROWS, Value};
-use path::{field_at, first_link, index_or_axis, second_link, test_at};
+use meaning::{Context, MOST_ROWS, Op, Value};
+use path::{axis_at, first_link, index_or_axis, node_test_at, op_at, second_link};
 use reach::{reach, reach_back};
 use sieve::{choose, exchange, lower, put_out, raise, retain, settle, settle_all};
 use table::row_count;
@@ -32,13 +34,13 @@ use values::{apply, float_of, is_decided, keeps, takes_first, takes_second, trut
 fn step_at(path: &[u32], row: usize) -> Step
     requires { row ≤ most_path_rows }
     ensures predicates { (result.predicates ≡ second_link path.now row) × (result.predicates ≤ row) }
-    ensures axis { result.axis ≡ index_or_axis path.now row }
-    ensures test { result.test ≡ test_at path.now row }
+    ensures axis { result.axis ≡ axis_of (index_or_axis path.now row) }
+    ensures test { result.test ≡ test_of (test_at path.now row) }
 {
     Step {
         predicates: second_link(path, row),
-        axis: index_or_axis(path, row),
-        test: test_at(path, row),
+        axis: axis_at(path, row),
+        test: node_test_at(path, row),
     }
 }
 
@@ -54,7 +56,7 @@ impl Evaluation<'_> {
             return none;
         }
         let row = link - 1;
-        let op = field_at(self.path, row, 0);
+        let op = op_at(self.path, row);
         let index = index_or_axis(self.path, row);
         let first = first_link(self.path, row);
         if is_over_path(op) {
@@ -163,7 +165,7 @@ impl Evaluation<'_> {
     // Decides an and, or where any an or: the rows that the first operand leaves open are raised by a level for the second.
     #[cycle(selection)]
     fn decide_pair(&self, link: usize, any: bool, active: u16, states: &mut [u16])
-        requires { (0 < link) × (link ≤ most_path_rows) × (active + 2 * link ≤ 1000) × (length states.old ≡ most_rows) × (field self.now.path.now (link - 1) 0 ≡ cond any 17 16) × Bounded (rows self.now.table.now) active states.old }
+        requires { (0 < link) × (link ≤ most_path_rows) × (active + 2 * link ≤ 1000) × (length states.old ≡ most_rows) × (op_at self.now.path.now (link - 1) ≡ cond any Or And) × Bounded (rows self.now.table.now) active states.old }
         ensures { Sieved (true_at self.now.edition self.now.table.now self.now.literals.now (tree self.now.path.now link)) active (rows self.now.table.now) states.old states.new }
     {
         let row = link - 1;
@@ -179,7 +181,7 @@ impl Evaluation<'_> {
     // Decides a not: the rows where its operand holds and those where it does not are exchanged.
     #[cycle(selection)]
     fn decide_not(&self, link: usize, active: u16, states: &mut [u16])
-        requires { (0 < link) × (link ≤ most_path_rows) × (active + 2 * link ≤ 1000) × (length states.old ≡ most_rows) × (field self.now.path.now (link - 1) 0 ≡ 18) × Bounded (rows self.now.table.now) active states.old }
+        requires { (0 < link) × (link ≤ most_path_rows) × (active + 2 * link ≤ 1000) × (length states.old ≡ most_rows) × (op_at self.now.path.now (link - 1) ≡ Negation) × Bounded (rows self.now.table.now) active states.old }
         ensures { Sieved (true_at self.now.edition self.now.table.now self.now.literals.now (tree self.now.path.now link)) active (rows self.now.table.now) states.old states.new }
     {
         let first = first_link(self.path, link - 1);
@@ -244,7 +246,7 @@ impl Evaluation<'_> {
     // Decides an existence: of an absolute path once for all rows, of a relative path backwards, or row by row where a step counts.
     #[cycle(selection)]
     fn decide_path(&self, link: usize, active: u16, states: &mut [u16])
-        requires { (0 < link) × (link ≤ most_path_rows) × (active ≤ 1000) × (length states.old ≡ most_rows) × (field self.now.path.now (link - 1) 0 ≡ 20) }
+        requires { (0 < link) × (link ≤ most_path_rows) × (active ≤ 1000) × (length states.old ≡ most_rows) × (op_at self.now.path.now (link - 1) ≡ Exists) }
         ensures { Sieved (true_at self.now.edition self.now.table.now self.now.literals.now (tree self.now.path.now link)) active (rows self.now.table.now) states.old states.new }
     {
         let held = first_link(self.path, link - 1);
@@ -253,8 +255,7 @@ impl Evaluation<'_> {
             return;
         }
         let top = held - 1;
-        let op = field_at(self.path, top, 0);
-        if op == 23 {
+        if let Op::Absolute = op_at(self.path, top) {
             let k = self.tally(held, 0);
             settle_all(states, row_count(self.table), active, 0 < k);
             return;
@@ -278,12 +279,11 @@ impl Evaluation<'_> {
             self.decide_each(link, active, states);
             return;
         }
-        let op = field_at(self.path, link - 1, 0);
-        match op {
-            16 => self.decide_pair(link, false, active, states),
-            17 => self.decide_pair(link, true, active, states),
-            18 => self.decide_not(link, active, states),
-            20 => self.decide_path(link, active, states),
+        match op_at(self.path, link - 1) {
+            Op::And => self.decide_pair(link, false, active, states),
+            Op::Or => self.decide_pair(link, true, active, states),
+            Op::Negation => self.decide_not(link, active, states),
+            Op::Exists => self.decide_path(link, active, states),
             _ => self.decide_each(link, active, states),
         }
     }
@@ -363,7 +363,7 @@ impl Evaluation<'_> {
             return;
         }
         let top = link - 1;
-        start_mark(self.table, field_at(self.path, top, 0), start, marks);
+        start_mark(self.table, op_at(self.path, top), start, marks);
         let steps = first_link(self.path, top);
         self.walk(steps, marks);
     }

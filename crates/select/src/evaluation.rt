@@ -4,6 +4,8 @@ ghost use Rattle.meaning.specs.Table.{rows, most_rows};
 ghost use Rattle.reach.specs.Reach.{Rooted};
 ghost use Rattle.select.specs.Rooted.{Rooted-prop};
 
+use meaning::{Axis, Test};
+
 // A path with its literals, on a table, in an edition: the table is not longer than the buffers, and its parents are rows.
 #[derive(Clone, Copy)]
 pub struct Evaluation<'a> {
@@ -19,6 +21,6 @@ pub struct Evaluation<'a> {
 #[derive(Clone, Copy)]
 pub struct Step {
     pub predicates: usize,
-    pub axis: usize,
-    pub test: usize,
+    pub axis: Axis,
+    pub test: Test,
 }

@@ -5,55 +5,55 @@
 mod cycle;
 mod evaluation;
 
-ghost use Rattle.std.specs.Prelude.{◌≡◌, true, ◌<◌};
-ghost use Rattle.meaning.specs.Answers.{is_edition, table_answer, path_answer};
+ghost use Rattle.std.specs.Prelude.{◌≡◌, true};
+ghost use Rattle.meaning.specs.Answers.{is_edition, table_answer, path_answer, told};
 ghost use Rattle.meaning.specs.Promises.{EvaluatesPath};
 
-use basics::{either, given, same, wide};
 use evaluation::Evaluation;
 use marks::give_marks;
-use meaning::{Answer, MOST_ROWS};
+use meaning::{MOST_ROWS, Refusal};
 use path_check::check_path;
 use table::row_count;
 use table_check::check_table;
 
 // Is the number an edition of the rule sheets?
-fn is_edition(edition: usize) -> bool
+#[tactic(auto, unfolding(meaning::specs::Answers::is_edition))]
+fn is_edition(edition: u32) -> bool
     ensures { result ≡ is_edition edition }
 {
-    either(same(edition, 1), same(edition, 2))
+    edition == 1 || edition == 2
 }
 
-// Evaluation, in an edition, of a path and on a table that are accepted: 7 for a start node that is none, 8 where out has no room, 0 with
-// what is selected at the front of out.
+// Evaluation, in an edition, of a path and on a table that are accepted: refused for a start node that is none and where out has no room,
+// else how many nodes are selected, and they stand at the front of out.
 fn evaluate_accepted(
-    edition: usize,
+    edition: u32,
     table: &[u32],
     path: &[u32],
     literals: &[f64],
-    start: usize,
+    start: u32,
     out: &mut [u32],
-) -> Answer
-    requires { (start < 4294967296) × (is_edition edition ≡ true) × ((table_answer table.now).number ≡ 0) × ((path_answer path.now literals.now).number ≡ 0) }
-    ensures { EvaluatesPath edition table.now path.now literals.now start out.old result out.new }
+) -> Result<u32, Refusal>
+    requires { (is_edition edition ≡ true) × ((table_answer table.now).number ≡ 0) × ((path_answer path.now literals.now).number ≡ 0) }
+    ensures { EvaluatesPath edition table.now path.now literals.now start out.old (told result) out.new }
 {
-    if row_count(table) <= start {
-        return given(7, start);
+    if row_count(table) <= start as usize {
+        return Err(Refusal::NoSuchNode(start));
     }
     let mut marks = [false; MOST_ROWS];
     let evaluation = Evaluation {
-        edition,
+        edition: edition as usize,
         table,
         path,
         literals,
     };
-    evaluation.select(path::row_count(path), start, &mut marks);
+    evaluation.select(path::row_count(path), start as usize, &mut marks);
     give_marks(table, &marks, out)
 }
 
 // Evaluates a path, in an edition, on a table from a start node, for any inputs. The edition is checked first, then the table, the path,
-// the start node and the room. On 0 the selected nodes stand ascending at the front of out and the place is their count; the rest of out,
-// and on every other number all of it, is as it was.
+// the start node and the room. The selected nodes stand ascending at the front of out, and their count is given; the rest of out, and on
+// each refusal all of it, is as it was.
 pub fn evaluate(
     edition: u32,
     table: &[u32],
@@ -61,20 +61,13 @@ pub fn evaluate(
     literals: &[f64],
     start: u32,
     out: &mut [u32],
-) -> Answer
-    ensures { EvaluatesPath edition table.now path.now literals.now start out.old result out.new }
+) -> Result<u32, Refusal>
+    ensures { EvaluatesPath edition table.now path.now literals.now start out.old (told result) out.new }
 {
-    let edition = wide(edition);
     if !is_edition(edition) {
-        return given(14, edition);
+        return Err(Refusal::NoSuchEdition(edition));
     }
-    let of_table = Answer::from(check_table(table));
-    if of_table.number != 0 {
-        return of_table;
-    }
-    let of_path = check_path(path, literals);
-    if of_path.number != 0 {
-        return of_path;
-    }
-    evaluate_accepted(edition, table, path, literals, wide(start), out)
+    check_table(table)?;
+    check_path(path, literals)?;
+    evaluate_accepted(edition, table, path, literals, start, out)
 }

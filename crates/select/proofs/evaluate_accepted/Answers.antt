@@ -1,8 +1,7 @@
--- `select::evaluate_accepted` meets its contract: the marks that the path's select leaves are what is selected, and each answer is that of
+-- `select::evaluate_accepted` meets its contract: the marks that the path's select leaves are what is selected, and each outcome is that of
 -- its check.
 -- Assumes nothing.
-use mathlib.Core.Path.{refl}
-use native.Mathlib.Omega.{arith}
+use Rattle.std.proofs.Common.{refl, arith}
 use Rattle.meaning.proofs.Checks.{table_accepted}
 use Rattle.meaning.specs.Table.{most_rows}
 use Rattle.meaning.proofs.Marks.{no_marks}
@@ -12,21 +11,21 @@ use Rattle.select.proofs.evaluate_accepted.Goals as goal
 
 pub returns-then-row_count-start : goal.returns-then-row_count-start
 returns-then-row_count-start c =
-    start_refused _ _ _ _ _ _ c.requires.1 c.requires.2 c.requires.3 _ (omega arith) c.given.ensures
+    start_refused _ _ _ _ _ _ c.requires.0 c.requires.1 c.requires.2 (omega arith)
 
 pub invariant_of-evaluation : goal.invariant_of-evaluation
 invariant_of-evaluation c =
-    record { small = table_fits _ c.requires.2; rooted = accepted_rooted _ (table_accepted _ c.requires.2) }
+    record { small = table_fits _ c.requires.1; rooted = accepted_rooted _ (table_accepted _ c.requires.1) }
 
 pub select-requires : goal.select-requires
 select-requires c =
-    (rw c.row_count-2.ensures (path_fits _ _ c.requires.3), refl, no_marks most_rows)
+    (rw c.row_count-2.ensures (path_fits _ _ c.requires.2), refl, no_marks most_rows)
 
 pub give_marks-requires : goal.give_marks-requires
 give_marks-requires c =
-    let fits = table_fits _ c.requires.2 in
+    let fits = table_fits _ c.requires.1 in
     (fits, omega (arith, c.select.auto))
 
 pub returns : goal.returns
 returns c =
-    all_handed _ _ _ _ _ _ c.requires.1 c.requires.2 c.requires.3 (omega arith) _ c.row_count-2.ensures _ c.select.ensures _ _ c.give_marks.ensures.0 c.give_marks.ensures.1
+    all_handed _ _ _ _ _ _ c.requires.0 c.requires.1 c.requires.2 (omega arith) _ c.row_count-2.ensures _ c.select.ensures _ _ c.give_marks.ensures.0 c.give_marks.ensures.1

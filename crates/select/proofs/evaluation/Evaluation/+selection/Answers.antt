@@ -71,13 +71,13 @@ decide_pair-returns t c =
 
 -- `decide_path`: an absolute path selects the same from every node, and a relative one whose steps do not count is led back to.
 
-pub decide_path-returns-then-op-eq23 : goal.decide_path-returns-then-op-eq23
-decide_path-returns-then-op-eq23 t c =
-    absolute_decided _ _ _ _ _ (λ e. omega (arith, c.requires)) c.requires.4 _ c.first_link-held.ensures.0 c.if-held-eq0.false _ c.field_at-op.ensures.0 _ _ _ c.if-op-eq23.true _ _ _ c.tally-k.ensures.0 refl c.row_count.ensures c.settle_all.ensures
+pub decide_path-returns-in-Absolute : goal.decide_path-returns-in-Absolute
+decide_path-returns-in-Absolute t c =
+    absolute_decided _ _ _ _ _ (λ e. omega (arith, c.requires)) c.requires.4 _ c.first_link-held.ensures.0 c.if-held-eq0.false _ c.op_at.ensures _ _ _ c.in-Absolute.is _ _ _ c.tally-k.ensures.0 refl c.row_count.ensures c.settle_all.ensures
 
 pub decide_path-returns : goal.decide_path-returns
 decide_path-returns t c =
-    relative_decided _ _ _ _ _ (λ e. omega (arith, c.requires)) c.requires.4 _ c.first_link-held.ensures.0 c.if-held-eq0.false _ c.field_at-op.ensures.0 _ _ _ c.if-op-eq23.false _ c.first_link-steps.ensures.0 _ c.counts.ensures c.if-counts.false c.decide_back.ensures
+    relative_decided _ _ _ _ _ (λ e. omega (arith, c.requires)) c.requires.4 _ c.first_link-held.ensures.0 c.if-held-eq0.false _ c.op_at.ensures _ _ _ c.in_default.not-Absolute _ c.first_link-steps.ensures.0 _ c.counts.ensures c.if-counts.false c.decide_back.ensures
 
 -- `expression`: one answer for each way that an op takes its operands, all by the law that a value depends only on what its op takes.
 
