@@ -1,20 +1,20 @@
 -- Laws of decimals: how digits grow, and the two round trips, from a number to its digits and back and from digits to their number and back.
 -- Assumes nothing.
-use Prim.Native.Nat.{ℕ, zero, suc, ◌+◌, ◌-◌, ◌*◌, ◌/◌, ◌%◌, ◌^◌, ◌<◌, ◌≤◌, min}
+use Prim.Native.Nat.{ℕ, zero, suc, ◌+◌, ◌-◌, ◌*◌, ◌/◌, ◌%◌, ◌^◌, ◌<◌, ◌≤◌, min, max}
 use native.Mathlib.Omega.{arith}
 use native.Mathlib.Nat.{not-suc-le-zero}
 use native.Mathlib.Numerals.{add-one}
 use mathlib.Core.Path.{◌≡◌, refl, sym, ap, ◌∙◌}
 use mathlib.Core.Logic.{⊎_elim}
-use mathlib.Core.Bool.{Bool, true, false, ◌&&◌, not, and-false, true≢false}
+use mathlib.Core.Bool.{Bool, true, false, ◌&&◌, cond, and-false, true≢false}
 use mathlib.Core.List.{List, [], ◌∷◌, ◌++◌, append-nil}
-use lib.ListN.{length, get_or, drop, drop_of_length-le, length-append, get_or-eq_default}
-use lib.Seq.{drop-cons, append_snoc}
+use lib.ListN.{length, get_or, take, drop, drop_of_length-le, length-append, get_or-eq_default}
+use lib.Seq.{drop-cons, append_snoc, take_at}
 use lib.Dec.{T, leb, eqb, leb→le}
 use borrow.Author.Tests.{lt-ltb, le-ltb, le-leb, lt-leb, eqb-false, ne_eqb, not-true}
 use Rattle.meaning.proofs.Bools.{lt_or_ge, truly, and_l, and_r, is_true}
 use Rattle.decimal.specs.Decimal.{most_number, digits_of, digits, is_digit, leading, number_from, number, plain, decimal_at}
-use Rattle.decimal.specs.declared.Decimal.TheVariants.{Number, Nothing}
+use Rattle.std.specs.Prelude.{Option, Some, None}
 
 -- ---- digits
 
@@ -74,8 +74,55 @@ width_within (suc k) n h =
     (λ (l : 10 ≤ n). let i : length (digits (n / 10)) ≤ suc k = width_within k (n / 10) (omega arith) in rw (width_more n l) (omega arith))
     (lt_or_ge n 10)
 
+width_above : (k n : ℕ) → 10 ^ k ≤ n → suc k ≤ length (digits n)
+width_above zero n h = width_some n
+width_above (suc k) n h =
+    ⊎_elim
+    (λ (l : n < 10). absurd (omega (arith, power_some k)))
+    (λ (l : 10 ≤ n). let i : suc k ≤ length (digits (n / 10)) = width_above k (n / 10) (omega arith) in rw (width_more n l) (omega arith))
+    (lt_or_ge n 10)
+  where
+    power_some : (k : ℕ) → 0 < 10 ^ k
+    power_some zero = omega arith
+    power_some (suc k) = let h : 0 < 10 ^ k = power_some k in omega arith
+
+-- the width by the power of ten below
+pub width_power : (k n : ℕ) → 10 ^ k ≤ max n 1 → max n 1 < 10 * 10 ^ k → length (digits n) ≡ k + 1
+width_power k n h g =
+    ⊎_elim
+    (λ (l : n < 1).
+    let e : max n 1 ≡ 1 = omega arith in
+    let z : length (digits n) ≡ length (digits (max n 1)) = rw (width_few n (omega arith), width_few (max n 1) (omega arith)) in
+    let a : suc k ≤ length (digits (max n 1)) = width_above k (max n 1) h in
+    let b : length (digits (max n 1)) ≤ suc k = width_within k (max n 1) (omega arith) in
+    omega arith)
+    (λ (l : 1 ≤ n).
+    let e : max n 1 ≡ n = omega arith in
+    let a : suc k ≤ length (digits n) = width_above k n (rw e at h) in
+    let b : length (digits n) ≤ suc k = width_within k n (omega arith) in
+    omega arith)
+    (lt_or_ge n 1)
+
 pub width_ten : (n : ℕ) → n ≤ most_number → length (digits n) ≤ 10
 width_ten n h = width_within 9 n (omega arith)
+
+-- the last so many digits of n, zeros where it has fewer
+unfoldable pub last_digits : ℕ → ℕ → List ℕ
+last_digits zero n = []
+last_digits (suc k) n = last_digits k (n / 10) ++ ((48 + n % 10) ∷ [])
+
+pub length_last : (k n : ℕ) → length (last_digits k n) ≡ k
+unfolding last_digits
+length_last zero n = refl
+length_last (suc k) n = let e : length (last_digits k (n / 10)) ≡ k = length_last k (n / 10) in rw length-append (omega arith)
+
+-- as many as n has are all of them
+pub last_all : (n : ℕ) → last_digits (length (digits n)) n ≡ digits n
+unfolding last_digits
+last_all =
+    tens (λ n. last_digits (length (digits n)) n ≡ digits n)
+    (λ n h. let e : n % 10 ≡ n = omega arith in rw (width_few n h, digits_few n h, e))
+    (λ n h e. rw (width_more n h, add-one, digits_more n h, e))
 
 -- ---- numbers of digits
 
@@ -226,14 +273,14 @@ digits_number (b ∷ (c ∷ s)) h k =
 
 -- what is read where the digits of a number stand, no digit behind them
 pub read_digits : (text : List ℕ) (i n : ℕ) (rest : List ℕ) → n ≤ most_number → drop i text ≡ digits n ++ rest → leading rest ≡ []
-    → decimal_at text i ≡ Number n (i + length (digits n))
+    → decimal_at text i ≡ Some (n, i + length (digits n))
 unfolding decimal_at
 read_digits text i n rest h e l =
     let d : leading (drop i text) ≡ digits n = rw e (leading_append (digits n) rest (digits_digits n) ∙ rw l (append-nil (digits n))) in
     rw (d, plain_digits n, number_digits n, le-leb n most_number h)
 
 -- and what is read stands there
-pub digits_read : (text : List ℕ) (i n next : ℕ) → decimal_at text i ≡ Number n next
+pub digits_read : (text : List ℕ) (i n next : ℕ) → decimal_at text i ≡ Some (n, next)
     → (n ≤ most_number) × (leading (drop i text) ≡ digits n) × (next ≡ i + length (digits n))
 unfolding decimal_at
 digits_read text i n next e = by (plain d && leb (number d) most_number) refl
@@ -243,14 +290,15 @@ digits_read text i n next e = by (plain d && leb (number d) most_number) refl
 
     by : (t : Bool) → (plain d && leb (number d) most_number) ≡ t → (n ≤ most_number) × (d ≡ digits n) × (next ≡ i + length (digits n))
     by true c =
-        let k : Number (number d) (i + length d) ≡ Number n next = rw c at e in
-        let a : number d ≡ n = cc in
+        let k : ◌≡◌ {A = Option (ℕ × ℕ)} (Some (number d, i + length d)) (Some (n, next)) = rw c at e in
+        let j : ◌≡◌ {A = ℕ × ℕ} (number d, i + length d) (n, next) = cc in
+        let a : number d ≡ n = ap (λ (t : ℕ × ℕ). t.0) j in
         let p : plain d ≡ true = is_true (plain d) (and_l (plain d) (leb (number d) most_number) (truly c)) in
         let m : number d ≤ most_number = leb→le (number d) most_number (and_r (plain d) (leb (number d) most_number) (truly c)) in
         let s : digits n ≡ d = rw a at (digits_number d (leading_leading (drop i text)) p) in
-        let z : i + length d ≡ next = cc in
+        let z : i + length d ≡ next = ap (λ (t : ℕ × ℕ). t.1) j in
         (rw a at m, sym s, rw s (sym z))
-    by false c = let k : Nothing ≡ Number n next = rw c at e in let w : ◌≡◌ {A = ℕ} 0 1 = cc in absurd (omega arith)
+    by false c = let k : ◌≡◌ {A = Option (ℕ × ℕ)} None (Some (n, next)) = rw c at e in let w : ◌≡◌ {A = ℕ} 0 1 = cc in absurd (omega arith)
 
 -- ---- the digits from an index on, one by one
 
@@ -264,6 +312,10 @@ stands_inside test text i n e =
 
 pub digit_inside : (text : List ℕ) (i : ℕ) → is_digit (get_or text i 0) ≡ true → i < length text
 digit_inside text i e = stands_inside is_digit text i refl e
+
+-- no digit stands behind the end
+pub no_digit_outside : (text : List ℕ) (i : ℕ) → length text ≤ i → is_digit (get_or text i 0) ≡ false
+no_digit_outside text i h = rw (get_or-eq_default text 0 h)
 
 -- a digit at index i is the first of those from i on
 pub leading_at : (text : List ℕ) (i : ℕ) → is_digit (get_or text i 0) ≡ true → leading (drop i text) ≡ get_or text i 0 ∷ leading (drop (i + 1) text)
@@ -279,83 +331,75 @@ leading_none text i e =
     (λ (h : length text ≤ i). rw (drop_of_length-le text h))
     (lt_or_ge i (length text))
 
--- the digits from index at to before next have been read: their number is value, or too large
-pub record Reading (text : List ℕ) (at value next : ℕ) : Type 0 where
-  pub bounded : value ≤ most_number + 1
-  pub placed : next + length (leading (drop next text)) ≡ at + length (leading (drop at text))
-  pub counted : min (number_from value (leading (drop next text))) (most_number + 1) ≡ min (number (leading (drop at text))) (most_number + 1)
+-- the first digits of a text, count of them, have been read, and their number is value: with the digits behind them it is the number of all
+pub record Reading (text : List ℕ) (value count : ℕ) : Type 0 where
+  pub placed : count + length (leading (drop count text)) ≡ length (leading text)
+  pub counted : number_from value (leading (drop count text)) ≡ number (leading text)
 
-pub reading_starts : (text : List ℕ) (at : ℕ) → Reading text at 0 at
-reading_starts text at = record { bounded = omega arith; placed = refl; counted = refl }
+pub reading_starts : (text : List ℕ) → Reading text 0 0
+reading_starts text = record { placed = omega arith; counted = refl }
 
-pub reading_more : (text : List ℕ) (at value next : ℕ) → Reading text at value next → is_digit (get_or text next 0) ≡ true
-    → Reading text at (min (10 * value + (get_or text next 0 - 48)) (most_number + 1)) (next + 1)
+pub reading_more : (text : List ℕ) (value count : ℕ) → Reading text value count → is_digit (get_or text count 0) ≡ true
+    → Reading text (value * 10 + (get_or text count 0 - 48)) (count + 1)
 unfolding number_from
-reading_more text at value next r e =
-    let l : leading (drop next text) ≡ get_or text next 0 ∷ leading (drop (next + 1) text) = leading_at text next e in
-    let p : next + suc (length (leading (drop (next + 1) text))) ≡ at + length (leading (drop at text)) = rw l at r.placed in
-    record {
-      bounded = omega arith;
-      placed = omega arith;
-      counted = number_cut (most_number + 1) (10 * value + (get_or text next 0 - 48)) (leading (drop (next + 1) text)) ∙ (rw l at r.counted);
-    }
+reading_more text value count r e =
+    let l : leading (drop count text) ≡ get_or text count 0 ∷ leading (drop (count + 1) text) = leading_at text count e in
+    let p : count + suc (length (leading (drop (count + 1) text))) ≡ length (leading text) = rw l at r.placed in
+    let m : value * 10 + (get_or text count 0 - 48) ≡ 10 * value + (get_or text count 0 - 48) = omega arith in
+    record { placed = omega arith; counted = rw m (rw l at r.counted) }
 
--- all the digits that stand at index at have been read
-pub record Read (text : List ℕ) (at value next : ℕ) : Type 0 where
-  pub placed : next ≡ at + length (leading (drop at text))
-  pub counted : value ≡ min (number (leading (drop at text))) (most_number + 1)
+-- a number that is too large stays so with more digits behind it
+pub reading_large : (text : List ℕ) (value count : ℕ) → Reading text value count → most_number < value → most_number < number (leading text)
+reading_large text value count r h =
+    let k : value ≤ number_from value (leading (drop count text)) = number_grows value (leading (drop count text)) in
+    let c = r.counted in
+    omega arith
 
-pub reading_done : (text : List ℕ) (at value next : ℕ) → Reading text at value next → is_digit (get_or text next 0) ≡ false → Read text at value next
+-- behind the last digit all have been read
+pub reading_done : (text : List ℕ) (value count : ℕ) → Reading text value count → is_digit (get_or text count 0) ≡ false
+    → (count ≡ length (leading text)) × (value ≡ number (leading text))
 unfolding number_from
-reading_done text at value next r e =
-    let l : leading (drop next text) ≡ [] = leading_none text next e in
-    let p : next + 0 ≡ at + length (leading (drop at text)) = rw l at r.placed in
-    let k : min value (most_number + 1) ≡ min (number (leading (drop at text))) (most_number + 1) = rw l at r.counted in
-    let b = r.bounded in
-    record { placed = omega arith; counted = omega arith }
+reading_done text value count r e =
+    let l : leading (drop count text) ≡ [] = leading_none text count e in
+    let p : count + 0 ≡ length (leading text) = rw l at r.placed in
+    let k : value ≡ number (leading text) = rw l at r.counted in
+    (omega arith, k)
 
--- what was read is a decimal unless the digits are none or their number is too large
-pub read_plain : (text : List ℕ) (at : ℕ) → plain (leading (drop at text)) ≡ false → decimal_at text at ≡ Nothing
+-- the digits at the front of a text are what it begins with
+pub take_leading : (text : List ℕ) → take (length (leading text)) text ≡ leading text
+take_leading text = ap (λ (s : List ℕ). take (length (leading text)) s) (leading_split text) ∙ take_at (leading text) _ (length (leading text)) refl
+
+-- what stands at an index is a decimal unless the digits there are none or their number is too large
+pub read_plain : (text : List ℕ) (at : ℕ) → plain (leading (drop at text)) ≡ false → decimal_at text at ≡ None
 unfolding decimal_at
 read_plain text at e = rw e
 
-pub read_large : (text : List ℕ) (at value next : ℕ) → Read text at value next → most_number < value → decimal_at text at ≡ Nothing
+pub read_large : (text : List ℕ) (at : ℕ) → most_number < number (leading (drop at text)) → decimal_at text at ≡ None
 unfolding decimal_at
-read_large text at value next r h =
-    let k = r.counted in
-    let l : most_number < number (leading (drop at text)) = omega arith in
-    rw (lt-leb (number (leading (drop at text))) most_number l, and-false (plain (leading (drop at text))))
+read_large text at h =
+    rw (lt-leb (number (leading (drop at text))) most_number h, and-false (plain (leading (drop at text))))
 
-pub read_number : (text : List ℕ) (at value next : ℕ) → Read text at value next → plain (leading (drop at text)) ≡ true → value ≤ most_number
-    → decimal_at text at ≡ Number value next
+pub read_number : (text : List ℕ) (at : ℕ) → plain (leading (drop at text)) ≡ true → number (leading (drop at text)) ≤ most_number
+    → decimal_at text at ≡ Some (number (leading (drop at text)), at + length (leading (drop at text)))
 unfolding decimal_at
-read_number text at value next r e h =
-    let k = r.counted in
-    let n : number (leading (drop at text)) ≡ value = omega arith in
-    rw (e, n, le-leb value most_number h, r.placed)
+read_number text at e h = rw (e, le-leb (number (leading (drop at text))) most_number h)
 
--- are digits plain, by how many they are and by the first
-pub plain_none : (s : List ℕ) → length s ≡ 0 → plain s ≡ false
-unfolding plain
-plain_none [] h = refl
-plain_none (b ∷ s) h = absurd (omega arith)
-
-pub plain_one : (s : List ℕ) → length s ≡ 1 → plain s ≡ true
-unfolding plain
-plain_one [] h = absurd (omega arith)
-plain_one (b ∷ []) h = refl
-plain_one (b ∷ (c ∷ s)) h = absurd (omega arith)
-
-pub plain_more : (s : List ℕ) → 1 < length s → plain s ≡ not (eqb (get_or s 0 0) 48)
-unfolding plain
-plain_more [] h = absurd (omega arith)
-plain_more (b ∷ []) h = absurd (omega arith)
-plain_more (b ∷ (c ∷ s)) h = refl
-
--- where digits stand from index i on, the first stands at i
-pub leading_first : (text : List ℕ) (i : ℕ) → 0 < length (leading (drop i text)) → (i < length text) × (get_or (leading (drop i text)) 0 0 ≡ get_or text i 0)
-leading_first text i h = by (is_digit (get_or text i 0)) refl
+-- what stands there, once all its digits have been read
+pub read_done : (text : List ℕ) (at : ℕ) (rest : List ℕ) (value count : ℕ) → rest ≡ drop at text → Reading rest value count → is_digit (get_or rest count 0) ≡ false → value ≤ most_number
+    → decimal_at text at ≡ cond (plain (take count rest)) (Some (value, at + count)) None
+read_done text at rest value count e r last h =
+    let r' = rw e at r in
+    let last' = rw e at last in
+    let d = reading_done (drop at text) value count r' last' in
+    let t : take count rest ≡ leading (drop at text) = rw (e, d.0) (take_leading (drop at text)) in
+    rw t (by d (plain (leading (drop at text))) refl)
   where
-    by : (t : Bool) → is_digit (get_or text i 0) ≡ t → (i < length text) × (get_or (leading (drop i text)) 0 0 ≡ get_or text i 0)
-    by true e = (digit_inside text i e, rw (leading_at text i e))
-    by false e = let z : length (leading (drop i text)) ≡ 0 = rw (leading_none text i e) in absurd (omega arith)
+    by : (count ≡ length (leading (drop at text))) × (value ≡ number (leading (drop at text))) → (p : Bool) → plain (leading (drop at text)) ≡ p
+        → decimal_at text at ≡ cond (plain (leading (drop at text))) (Some (value, at + count)) None
+    by d true p = let n : number (leading (drop at text)) ≤ most_number = omega arith in rw (p, d.0, d.1) (read_number text at p n)
+    by d false p = rw p (read_plain text at p)
+
+-- no decimal stands behind the end of a text
+pub read_outside : (text : List ℕ) (at : ℕ) → length text < at → decimal_at text at ≡ None
+unfolding decimal_at leading plain
+read_outside text at h = let e : drop at text ≡ [] = drop_of_length-le text (omega arith) in rw e

@@ -1,10 +1,8 @@
 -- Decimals (document 02, W-201): a number and its digits, as bytes, without leading zeros.
 -- Assumes nothing: these are definitions.
-use Rattle.std.specs.Prelude.{ℕ, zero, suc, ◌+◌, ◌-◌, ◌*◌, ◌/◌, ◌%◌, Bool, true, false, ◌&&◌, not, cond, List, [], ◌∷◌, ◌++◌, length, take, drop, leb, ltb, eqb}
+use Rattle.std.specs.Prelude.{ℕ, zero, suc, ◌+◌, ◌-◌, ◌*◌, ◌/◌, ◌%◌, Bool, true, false, ◌&&◌, not, cond, List, [], ◌∷◌, ◌++◌, length, take, drop, leb, ltb, eqb, Option, None, Some}
 use Prim.Native.Char.{code}
 use Prim.Native.String as Text
-use Rattle.decimal.specs.declared.Decimal.{Decimal}
-use Rattle.decimal.specs.declared.Decimal.TheVariants.{Number, Nothing}
 
 -- the bytes of an ASCII text
 abbrev pub ascii : Text.String → List ℕ
@@ -54,12 +52,12 @@ plain [] = false
 plain (b ∷ []) = true
 plain (b ∷ (c ∷ s)) = not (eqb b 48)
 
--- the decimal at index i of a text: its number and the index behind its digits; nothing where no decimal up to the largest number stands there
-unfoldable pub decimal_at : List ℕ → ℕ → Decimal
+-- the decimal at index i of a text: its number and the index behind its digits; none where no decimal up to the largest number stands there
+unfoldable pub decimal_at : List ℕ → ℕ → Option (ℕ × ℕ)
 decimal_at text i =
     cond (plain (leading (drop i text)) && leb (number (leading (drop i text))) most_number)
-    (Number (number (leading (drop i text))) (i + length (leading (drop i text))))
-    Nothing
+    (Some (number (leading (drop i text)), i + length (leading (drop i text))))
+    None
 
 -- ---- what is written
 
