@@ -9,7 +9,7 @@ ghost use Rattle.meaning.specs.View.{part_from};
 ghost use Rattle.meaning.specs.Promises.{ChecksTable, AnswersPlace, ChecksPath, EvaluatesPath, TurnsPath, FindsPart};
 ghost use Rattle.files.specs.Answers.{ReadsTable, WritesTable};
 
-use files::{read_table, write_table};
+use files::{WideAnswer, read_table, write_table};
 use meaning::{Answer, Refusal};
 use path_check::check_path;
 use place::axis_place;
@@ -92,7 +92,7 @@ pub extern "C" fn bt_view(
 pub extern "C" fn bt_read_table(file: &[u8], out: &mut [u32], place: &mut u64) -> u32
     ensures { ReadsTable most_rows file.now out.old (answer result place.new) out.new }
 {
-    let answer = read_table(file, out);
+    let answer = WideAnswer::from(read_table(file, out));
     *place = answer.place;
     answer.number
 }
@@ -101,7 +101,7 @@ pub extern "C" fn bt_read_table(file: &[u8], out: &mut [u32], place: &mut u64) -
 pub extern "C" fn bt_write_table(table: &[u32], out: &mut [u8], place: &mut u64) -> u32
     ensures { WritesTable table.now out.old (answer result place.new) out.new }
 {
-    let answer = write_table(table, out);
+    let answer = WideAnswer::from(write_table(table, out));
     *place = answer.place;
     answer.number
 }

@@ -2,7 +2,7 @@
 use crate::show::{
     Unit, write_answer, write_library_limit, write_own_limit, write_part, write_place,
 };
-use basics::{WideAnswer, told};
+use files::WideAnswer;
 use lines::output::{UNTOUCHED, UNTOUCHED_BYTE, copy_bytes, front};
 use lines::read::{count_of, number_at, read_numbers, small};
 use meaning::{Answer, MOST_ROWS};
@@ -16,7 +16,10 @@ const MOST_ENTRIES: usize = 4200;
 
 // An answer whose place has 32 bits, as one whose place has 64: they are shown alike.
 fn widened(answer: Answer) -> WideAnswer {
-    told(answer.number, answer.place as usize)
+    WideAnswer {
+        number: answer.number,
+        place: answer.place as u64,
+    }
 }
 
 pub fn answer_check_table(rt: &impl Print, line: &[u8], table: &[u32]) -> io::Result<()> {
@@ -129,7 +132,7 @@ pub fn answer_read_table(rt: &impl Print, line: &[u8], at: usize, file: &[u8]) -
     let mut space = [UNTOUCHED; MOST_ENTRIES];
     let room = count_of(size.value, MOST_ENTRIES);
     let out = &mut space[..room];
-    let answer = files::read_table(file, out);
+    let answer = WideAnswer::from(files::read_table(file, out));
     write_answer(rt, line, answer, Unit::Number, answer.place as usize, out)
 }
 
@@ -144,7 +147,7 @@ pub fn answer_write_table(
     let mut space = [UNTOUCHED_BYTE; MOST_ENTRIES];
     let room = count_of(size.value, MOST_ENTRIES);
     let out = &mut space[..room];
-    let answer = files::write_table(table, out);
+    let answer = WideAnswer::from(files::write_table(table, out));
     let mut entry_space = [UNTOUCHED; MOST_ENTRIES];
     let entries: &mut [u32] = &mut entry_space;
     copy_bytes(out, entries);

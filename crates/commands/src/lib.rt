@@ -134,8 +134,7 @@ fn take_turned(path: &mut [u32], length: usize, literals: &[f64]) -> usize {
 
 // The table becomes what reading the file gives, and empty where that is refused; its length.
 fn take_filed(file: &[u8], table: &mut [u32]) -> usize {
-    let answer = files::read_table(file, table);
-    written(answer.number, answer.place as usize)
+    files::read_table(file, table).map_or(0, |count| count as usize)
 }
 
 // Sets the table as far as there is room; gives its length as the line says it, at most that of a text.

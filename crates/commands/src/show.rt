@@ -1,7 +1,7 @@
 // What is written: an answer as bare numbers, or for a line with a name the name and the answer in words.
 ghost use Rattle.std.specs.Prelude.{◌<◌};
 
-use basics::WideAnswer;
+use files::WideAnswer;
 use lines::output::{front, is_changed, written};
 use lines::read::{behind, from};
 use lines::{pad_to, put_byte, put_number, put_numbers, put_text, write_line};

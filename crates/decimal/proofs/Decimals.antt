@@ -279,6 +279,12 @@ read_digits text i n rest h e l =
     let d : leading (drop i text) ≡ digits n = rw e (leading_append (digits n) rest (digits_digits n) ∙ rw l (append-nil (digits n))) in
     rw (d, plain_digits n, number_digits n, le-leb n most_number h)
 
+-- what is found is one number and one index
+pub found_same : (n i m j : ℕ) → ◌≡◌ {A = Option (ℕ × ℕ)} (Some (n, i)) (Some (m, j)) → (n ≡ m) × (i ≡ j)
+found_same n i m j e =
+    let k : ◌≡◌ {A = ℕ × ℕ} (n, i) (m, j) = cc in
+    (ap (λ (t : ℕ × ℕ). t.0) k, ap (λ (t : ℕ × ℕ). t.1) k)
+
 -- and what is read stands there
 pub digits_read : (text : List ℕ) (i n next : ℕ) → decimal_at text i ≡ Some (n, next)
     → (n ≤ most_number) × (leading (drop i text) ≡ digits n) × (next ≡ i + length (digits n))
@@ -290,13 +296,12 @@ digits_read text i n next e = by (plain d && leb (number d) most_number) refl
 
     by : (t : Bool) → (plain d && leb (number d) most_number) ≡ t → (n ≤ most_number) × (d ≡ digits n) × (next ≡ i + length (digits n))
     by true c =
-        let k : ◌≡◌ {A = Option (ℕ × ℕ)} (Some (number d, i + length d)) (Some (n, next)) = rw c at e in
-        let j : ◌≡◌ {A = ℕ × ℕ} (number d, i + length d) (n, next) = cc in
-        let a : number d ≡ n = ap (λ (t : ℕ × ℕ). t.0) j in
+        let f = found_same (number d) (i + length d) n next (rw c at e) in
+        let a : number d ≡ n = f.0 in
         let p : plain d ≡ true = is_true (plain d) (and_l (plain d) (leb (number d) most_number) (truly c)) in
         let m : number d ≤ most_number = leb→le (number d) most_number (and_r (plain d) (leb (number d) most_number) (truly c)) in
         let s : digits n ≡ d = rw a at (digits_number d (leading_leading (drop i text)) p) in
-        let z : i + length d ≡ next = ap (λ (t : ℕ × ℕ). t.1) j in
+        let z : i + length d ≡ next = f.1 in
         (rw a at m, sym s, rw s (sym z))
     by false c = let k : ◌≡◌ {A = Option (ℕ × ℕ)} None (Some (n, next)) = rw c at e in let w : ◌≡◌ {A = ℕ} 0 1 = cc in absurd (omega arith)
 

@@ -14,13 +14,12 @@ use Rattle.meaning.specs.Table.{most_rows}
 use Rattle.meaning.specs.Answers.{output}
 use Rattle.meaning.specs.declared.Answer.{Answer}
 use Rattle.decimal.specs.Decimal.{ascii, decimal_at}
-use Rattle.decimal.specs.declared.Decimal.{Decimal}
-use Rattle.decimal.specs.declared.Decimal.TheVariants.{Number, Nothing}
+use Rattle.std.specs.Prelude.{Option, None, Some, Result, Ok, Err}
+use Rattle.files.specs.declared.FileRefusal.{FileRefusal}
+use Rattle.files.specs.declared.FileRefusal.TheVariants.{BadLine}
 use Rattle.files.specs.Files.{line, key, Form, good, bad, HasForm}
 use Rattle.files.specs.Answers.{reading, rows_in, ReadsTable}
 use Rattle.files.specs.Parts.{begins, LineAt, Passed, HeadOf}
-use Rattle.files.specs.declared.reader.Head.{Head}
-use Rattle.files.specs.declared.reader.Head.TheVariants.{Rows, Bad}
 use Rattle.files.proofs.Keyed.{no_key, no_number, no_feed, line_found}
 use Rattle.files.proofs.Heads.{head_first, head_none, head_outside, head_rows}
 use Rattle.files.proofs.Passing.{passed_none, passed_more, head_bad}
@@ -29,63 +28,68 @@ use Rattle.files.proofs.Forms.{bad_number, bad_last, good_file, form_unique}
 -- ---- a line
 
 -- the number of a line, and the index behind its line feed
-unfoldable pub ended : List ℕ → Decimal → Decimal
-ended file Nothing = Nothing
-ended file (Number n end) = cond (eqb (get_or file end 0) 10) (Number n (end + 1)) Nothing
+unfoldable pub ended : List ℕ → Option (ℕ × ℕ) → Option (ℕ × ℕ)
+ended file None = None
+ended file (Some (n, end)) = cond (eqb (get_or file end 0) 10) (Some (n, end + 1)) None
 
-unfoldable pub line_at : List ℕ → List ℕ → ℕ → Decimal
-line_at word file at = cond (begins word (drop at file)) (ended file (decimal_at file (at + length word))) Nothing
+unfoldable pub line_at : List ℕ → List ℕ → ℕ → Option (ℕ × ℕ)
+line_at word file at = cond (begins word (drop at file)) (ended file (decimal_at file (at + length word))) None
 
 line_at_lem : (word file : List ℕ) (at : ℕ) → LineAt word file at (line_at word file at)
 unfolding line_at ended
 line_at_lem word file at = by (begins word (drop at file)) refl
   where
-    fed : (n end : ℕ) → decimal_at file (at + length word) ≡ Number n end → begins word (drop at file) ≡ true
-        → (f : Bool) → eqb (get_or file end 0) 10 ≡ f → LineAt word file at (cond f (Number n (end + 1)) Nothing)
+    fed : (n end : ℕ) → decimal_at file (at + length word) ≡ Some (n, end) → begins word (drop at file) ≡ true
+        → (f : Bool) → eqb (get_or file end 0) 10 ≡ f → LineAt word file at (cond f (Some (n, end + 1)) None)
     fed n end d b true f = line_found word file at n end d b f
     fed n end d b false f = no_feed word file at n end d f
 
-    read : begins word (drop at file) ≡ true → (d : Decimal) → decimal_at file (at + length word) ≡ d → LineAt word file at (ended file d)
-    read b Nothing d = no_number word file at d
-    read b (Number n end) d = fed n end d b (eqb (get_or file end 0) 10) refl
+    read : begins word (drop at file) ≡ true → (d : Option (ℕ × ℕ)) → decimal_at file (at + length word) ≡ d → LineAt word file at (ended file d)
+    read b None d = no_number word file at d
+    read b (Some (n, end)) d = fed n end d b (eqb (get_or file end 0) 10) refl
 
-    by : (t : Bool) → begins word (drop at file) ≡ t → LineAt word file at (cond t (ended file (decimal_at file (at + length word))) Nothing)
+    by : (t : Bool) → begins word (drop at file) ≡ t → LineAt word file at (cond t (ended file (decimal_at file (at + length word))) None)
     by true b = read b (decimal_at file (at + length word)) refl
     by false b = no_key word file at b
 
 -- ---- the first two lines
 
+-- a head whose first bad line has this number is refused
+abbrev refuse : Result (ℕ × ℕ) ℕ → Result (ℕ × ℕ) FileRefusal
+refuse (Ok head) = Ok head
+refuse (Err k) = Err (BadLine k)
+
 -- a count of rows in the limits
-unfoldable pub counted : Decimal → Head
-counted Nothing = Bad 2
-counted (Number n next) = cond (eqb n 0) (Bad 2) (cond (ltb most_rows n) (Bad 2) (Rows n next))
+unfoldable pub counted : Option (ℕ × ℕ) → Result (ℕ × ℕ) ℕ
+counted None = Err 2
+counted (Some (n, next)) = cond (eqb n 0) (Err 2) (cond (ltb most_rows n) (Err 2) (Ok (n, next)))
 
-unfoldable pub head_of : List ℕ → Head
-head_of file = cond (begins (ascii "edition=1\n") file) (counted (line_at (ascii "nodes=") file 10)) (Bad 1)
+unfoldable pub head_of : List ℕ → Result (ℕ × ℕ) ℕ
+head_of file = cond (begins (ascii "edition=1\n") file) (counted (line_at (ascii "nodes=") file 10)) (Err 1)
 
-head_of_lem : (file : List ℕ) → HeadOf file (head_of file)
+head_of_lem : (file : List ℕ) → HeadOf file (refuse (head_of file))
 unfolding head_of counted
 head_of_lem file = by (begins (ascii "edition=1\n") file) refl
   where
-    rows : (b : begins (ascii "edition=1\n") file ≡ true) (n next : ℕ) → LineAt (ascii "nodes=") file 10 (Number n next)
-        → (x y : Bool) → eqb n 0 ≡ x → ltb most_rows n ≡ y → HeadOf file (cond x (Bad 2) (cond y (Bad 2) (Rows n next)))
+    rows : (b : begins (ascii "edition=1\n") file ≡ true) (n next : ℕ) → LineAt (ascii "nodes=") file 10 (Some (n, next))
+        → (x y : Bool) → eqb n 0 ≡ x → ltb most_rows n ≡ y → HeadOf file (refuse (cond x (Err 2) (cond y (Err 2) (Ok (n, next)))))
     rows b n next l true y e f = head_outside file b n next l (inl (eqb-true n 0 e))
     rows b n next l false true e f = head_outside file b n next l (inr (ltb-true most_rows n f))
     rows b n next l false false e f = head_rows file b n next l (eqb-false n 0 e) (ltb-false most_rows n f)
 
-    count : begins (ascii "edition=1\n") file ≡ true → (d : Decimal) → LineAt (ascii "nodes=") file 10 d → HeadOf file (counted d)
-    count b Nothing l = head_none file b l
-    count b (Number n next) l = rows b n next l (eqb n 0) (ltb most_rows n) refl refl
+    count : begins (ascii "edition=1\n") file ≡ true → (d : Option (ℕ × ℕ)) → LineAt (ascii "nodes=") file 10 d → HeadOf file (refuse (counted d))
+    count b None l = head_none file b l
+    count b (Some (n, next)) l = rows b n next l (eqb n 0) (ltb most_rows n) refl refl
 
-    by : (t : Bool) → begins (ascii "edition=1\n") file ≡ t → HeadOf file (cond t (counted (line_at (ascii "nodes=") file 10)) (Bad 1))
+    by : (t : Bool) → begins (ascii "edition=1\n") file ≡ t → HeadOf file (refuse (cond t (counted (line_at (ascii "nodes=") file 10)) (Err 1)))
     by true b = count b (line_at (ascii "nodes=") file 10) (line_at_lem (ascii "nodes=") file 10)
     by false b = head_first file b
 
 -- ---- the numbers
 
-unfoldable pub onwards : Form → (ℕ → ℕ → Form) → Decimal → Form
-onwards stop more Nothing = stop
-onwards stop more (Number n next) = more n next
+unfoldable pub onwards : Form → (ℕ → ℕ → Form) → Option (ℕ × ℕ) → Form
+onwards stop more None = stop
+onwards stop more (Some (n, next)) = more n next
 
 -- k numbers are left to be read: from number i on, whose line stands at index at
 unfoldable pub numbers_from : ℕ → List ℕ → ℕ → ℕ → List ℕ → Form
@@ -104,9 +108,9 @@ numbers_from_lem (suc k) file at i t e p =
     go (λ n next. numbers_from_lem k file next (i + 1) (set t i n)) (line_at (ascii (key i) ++ ascii "=") file at) (line_at_lem (ascii (key i) ++ ascii "=") file at)
   where
     go : ((n next : ℕ) → i + 1 + k ≡ length (set t i n) → Passed file next (i + 1) (set t i n) → HasForm most_rows file (numbers_from k file next (i + 1) (set t i n)))
-        → (d : Decimal) → LineAt (ascii (key i) ++ ascii "=") file at d → HasForm most_rows file (onwards (bad (i + 3)) (λ n next. numbers_from k file next (i + 1) (set t i n)) d)
-    go more Nothing l = bad_number file at i t p (omega arith) l
-    go more (Number n next) l = more n next (rw length-set (omega arith)) (passed_more file at i t p n next (omega arith) l)
+        → (d : Option (ℕ × ℕ)) → LineAt (ascii (key i) ++ ascii "=") file at d → HasForm most_rows file (onwards (bad (i + 3)) (λ n next. numbers_from k file next (i + 1) (set t i n)) d)
+    go more None l = bad_number file at i t p (omega arith) l
+    go more (Some (n, next)) l = more n next (rw length-set (omega arith)) (passed_more file at i t p n next (omega arith) l)
 
 -- ---- the form
 
@@ -114,9 +118,9 @@ numbers_from_lem (suc k) file at i t e p =
 abbrev zeros : ℕ → List ℕ
 zeros n = replicate (4 * n) 0
 
-unfoldable pub from_head : List ℕ → Head → Form
-from_head file (Bad k) = bad k
-from_head file (Rows n at) = numbers_from (4 * n) file at 0 (zeros n)
+unfoldable pub from_head : List ℕ → Result (ℕ × ℕ) ℕ → Form
+from_head file (Err k) = bad k
+from_head file (Ok (n, at)) = numbers_from (4 * n) file at 0 (zeros n)
 
 unfoldable pub form_of : List ℕ → Form
 form_of file = from_head file (head_of file)
@@ -126,9 +130,9 @@ pub form_of_lem : (file : List ℕ) → HasForm most_rows file (form_of file)
 unfolding form_of from_head
 form_of_lem file = by (head_of file) (head_of_lem file)
   where
-    by : (h : Head) → HeadOf file h → HasForm most_rows file (from_head file h)
-    by (Bad k) h = head_bad file k h
-    by (Rows n at) h =
+    by : (h : Result (ℕ × ℕ) ℕ) → HeadOf file (refuse h) → HasForm most_rows file (from_head file h)
+    by (Err k) h = head_bad file k h
+    by (Ok (n, at)) h =
         let l : length (zeros n) ≡ 4 * n = length-replicate {A = ℕ} (4 * n) 0 in
         numbers_from_lem (4 * n) file at 0 (zeros n) (omega arith)
         (passed_none file at n (zeros n) h l (λ i k. let e : get_or (zeros n) i 0 ≡ 0 = get_or-replicate {A = ℕ} (4 * n) i 0 0 (omega arith) in omega arith))

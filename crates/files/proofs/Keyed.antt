@@ -1,38 +1,32 @@
 -- Laws of the line of a key as it is read: what a text begins with, byte by byte and as an equation of bytes; when the line stands there.
 -- Assumes nothing.
-use Prim.Native.Nat.{ℕ, suc, ◌+◌, ◌<◌, ◌≤◌}
+use Prim.Native.Nat.{ℕ, ◌+◌, ◌<◌, ◌≤◌}
 use native.Mathlib.Omega.{arith}
 use native.Mathlib.Numerals.{add-one}
 use mathlib.Core.Path.{◌≡◌, refl, sym, ap, ◌∙◌}
-use mathlib.Core.Bool.{Bool, true, false, ◌&&◌, true≢false}
+use mathlib.Core.Bool.{Bool, true, false, true≢false}
 use mathlib.Core.List.{List, [], ◌∷◌, ◌++◌, append_assoc}
-use lib.ListN.{length, get_or, drop, drop_of_length-le, length-append}
+use lib.ListN.{length, get_or, drop, length-append}
 use lib.Seq.{drop-cons, drop-drop, drop-append_seam, get_or-drop}
 use lib.Dec.{eqb}
-use borrow.Author.Tests.{eqb-true, eqb-false, eq-eqb, ne_eqb}
+use borrow.Author.Tests.{eqb-true, eqb-false, eq-eqb}
 use Rattle.meaning.proofs.Bools.{is_true, is_false}
 use Rattle.decimal.specs.Decimal.{digits, leading, most_number, decimal_at}
-use Rattle.decimal.specs.declared.Decimal.TheVariants.{Number, Nothing}
-use Rattle.decimal.proofs.Decimals.{read_digits, digits_read, leading_split, stands_inside}
+use Rattle.std.specs.Prelude.{Option, None, Some, Result, Ok, Err}
+use Rattle.std.specs.Option.{ok_or}
+use Rattle.std.specs.List.{starts_with}
+use Rattle.decimal.proofs.Decimals.{read_digits, digits_read, found_same, leading_split, stands_inside}
+use Rattle.files.specs.declared.FileRefusal.{FileRefusal}
 use Rattle.files.specs.Parts.{begins, keyed, LineAt}
 
--- ---- byte by byte, from index i of the word and index j of the text on
+-- ---- byte by byte
 
-module _ (word text : List ℕ) (i j : ℕ) where
-  pub begins_all : length word ≤ i → begins (drop i word) (drop j text) ≡ true
-  unfolding begins
-  begins_all h = rw (drop_of_length-le word h)
-
-  module _ (h : i < length word) (k : j < length text) where
-    begins_both : begins (drop i word) (drop j text) ≡ (eqb (get_or word i 0) (get_or text j 0) && begins (drop (suc i) word) (drop (suc j) text))
-    unfolding begins
-    begins_both = rw (drop-cons word i 0 h, drop-cons text j 0 k)
-
-    pub begins_other : (get_or text j 0 ≡ get_or word i 0 → ⊥) → begins (drop i word) (drop j text) ≡ false
-    begins_other n = begins_both ∙ rw (ne_eqb (get_or word i 0) (get_or text j 0) (λ e. n (sym e)))
-
-    pub begins_more : get_or text j 0 ≡ get_or word i 0 → begins (drop i word) (drop j text) ≡ begins (drop (i + 1) word) (drop (j + 1) text)
-    begins_more e = rw (add-one i, add-one j) (begins_both ∙ rw (eq-eqb (get_or word i 0) (get_or text j 0) (sym e)))
+-- what a text begins with, as the library tells it
+pub begins_starts : (word text : List ℕ) → starts_with eqb text word ≡ begins word text
+unfolding begins
+begins_starts [] text = refl
+begins_starts (b ∷ word) [] = refl
+begins_starts (b ∷ word) (c ∷ text) = rw (begins_starts word text)
 
 -- ---- as an equation of bytes
 
@@ -50,11 +44,6 @@ begins_with (b ∷ word) (c ∷ text) h = by (eqb b c) refl (begins_with word te
         λ i. sym d i ∷ m i
     by false e more = let k : false ≡ true = rw e at h in absurd (true≢false (sym k))
 
--- a text that is shorter than the word does not begin with it
-pub begins_short : (word text : List ℕ) → length text < length word → begins word text ≡ false
-begins_short word text h =
-    is_false (begins word text) (λ b. let n : length text ≡ length word + length (drop (length word) text) = ap length (begins_with word text (is_true (begins word text) b)) ∙ length-append word (drop (length word) text) in omega arith)
-
 pub begins_append : (word rest : List ℕ) → begins word (word ++ rest) ≡ true
 unfolding begins
 begins_append [] rest = refl
@@ -67,6 +56,18 @@ stands_there text rest i b e = let z : i + 0 ≡ i = omega arith in rw z at (sym
 -- a line feed stands inside the text
 pub feed_inside : (text : List ℕ) (i : ℕ) → eqb (get_or text i 0) 10 ≡ true → i < length text
 feed_inside text i e = stands_inside (λ b. eqb b 10) text i refl e
+
+-- ---- what is found or missing
+
+-- where a line is missing, what is told in its place
+pub missing : (found : Option (ℕ × ℕ)) (k e : FileRefusal) → ◌≡◌ {A = Result (ℕ × ℕ) FileRefusal} (ok_or found k) (Err e) → (found ≡ None) × (e ≡ k)
+missing None k e h = (refl, cc)
+missing (Some x) k e h = let w : ◌≡◌ {A = ℕ} 0 1 = cc in absurd (omega arith)
+
+-- and the line where it is found
+pub present : (found : Option (ℕ × ℕ)) (k : FileRefusal) (n next : ℕ) → ◌≡◌ {A = Result (ℕ × ℕ) FileRefusal} (ok_or found k) (Ok (n, next)) → found ≡ Some (n, next)
+present None k n next h = let w : ◌≡◌ {A = ℕ} 0 1 = cc in absurd (omega arith)
+present (Some x) k n next h = let e : ◌≡◌ {A = ℕ × ℕ} x (n, next) = cc in ap Some e
 
 -- ---- the line of a key
 
@@ -86,7 +87,7 @@ module _ (word file : List ℕ) (at : ℕ) where
     unfolding behind
     digits_there = sym (drop-drop (length word) at file) ∙ rw there (drop-append_seam word (digits n ++ 10 ∷ rest))
 
-    number_there : decimal_at file behind ≡ Number n (behind + length (digits n))
+    number_there : decimal_at file behind ≡ Some (n, behind + length (digits n))
     unfolding leading
     number_there = read_digits file behind n (10 ∷ rest) h digits_there refl
 
@@ -94,24 +95,23 @@ module _ (word file : List ℕ) (at : ℕ) where
     feed_there = sym (drop-drop (length (digits n)) behind file) ∙ rw digits_there (drop-append_seam (digits n) (10 ∷ rest))
 
   -- so there is no line where one of the three is not there
-  pub no_key : begins word (drop at file) ≡ false → LineAt word file at Nothing
+  pub no_key : begins word (drop at file) ≡ false → LineAt word file at None
   unfolding LineAt
   no_key b n rest h e = true≢false (sym (key_there n rest h e) ∙ b)
 
-  pub no_number : decimal_at file (at + length word) ≡ Nothing → LineAt word file at Nothing
+  pub no_number : decimal_at file (at + length word) ≡ None → LineAt word file at None
   unfolding LineAt behind
-  no_number d n rest h e = let k : Number n (behind + length (digits n)) ≡ Nothing = sym (number_there n rest h e) ∙ d in let w : ◌≡◌ {A = ℕ} 0 1 = cc in omega arith
+  no_number d n rest h e = let k : ◌≡◌ {A = Option (ℕ × ℕ)} (Some (n, behind + length (digits n))) None = sym (number_there n rest h e) ∙ d in let w : ◌≡◌ {A = ℕ} 0 1 = cc in omega arith
 
-  module _ (n end : ℕ) (d : decimal_at file (at + length word) ≡ Number n end) where
-    pub no_feed : eqb (get_or file end 0) 10 ≡ false → LineAt word file at Nothing
+  module _ (n end : ℕ) (d : decimal_at file (at + length word) ≡ Some (n, end)) where
+    pub no_feed : eqb (get_or file end 0) 10 ≡ false → LineAt word file at None
     unfolding LineAt behind
     no_feed f m rest h e =
-        let k : Number m (behind + length (digits m)) ≡ Number n end = sym (number_there m rest h e) ∙ d in
-        let z : behind + length (digits m) ≡ end = cc in
+        let z : behind + length (digits m) ≡ end = (found_same _ _ _ _ (sym (number_there m rest h e) ∙ d)).1 in
         eqb-false (get_or file end 0) 10 f (stands_there file rest end 10 (rw z at (feed_there m rest h e)))
 
     -- and there is one where all are
-    pub line_found : begins word (drop at file) ≡ true → eqb (get_or file end 0) 10 ≡ true → LineAt word file at (Number n (end + 1))
+    pub line_found : begins word (drop at file) ≡ true → eqb (get_or file end 0) 10 ≡ true → LineAt word file at (Some (n, end + 1))
     unfolding LineAt
     line_found b f =
         let l : end < length file = feed_inside file end f in

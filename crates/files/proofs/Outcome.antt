@@ -2,7 +2,7 @@
 -- Assumes nothing.
 use Prim.Native.Nat.{ℕ, ◌<◌, ◌≤◌}
 use native.Mathlib.Omega.{arith}
-use mathlib.Core.Path.{◌≡◌, sym, ◌∙◌}
+use mathlib.Core.Path.{◌≡◌, refl, sym, ◌∙◌}
 use mathlib.Core.Bool.{Bool, true, false, cond}
 use mathlib.Core.List.{List, ◌++◌}
 use lib.ListN.{length, drop}
@@ -10,8 +10,10 @@ use lib.Dec.{ltb}
 use borrow.Author.Tests.{lt-ltb, le-ltb, eq-eqb, ne_eqb}
 use Rattle.meaning.specs.Lists.{up_to, some, lowest}
 use Rattle.meaning.specs.Table.{rows, most_rows, length_allowed, broken}
-use Rattle.meaning.specs.Answers.{answer, table_answer, table_checks, output}
+use Rattle.meaning.specs.Answers.{answer, refused, table_answer, table_checks, output}
 use Rattle.meaning.specs.declared.Answer.{Answer}
+use Rattle.meaning.specs.declared.Refusal.{Refusal}
+use Rattle.meaning.specs.declared.Refusal.TheVariants.{TableLength, BrokenRow, PathLength, BadLiteral, BrokenPathRow, TooDeep, NoSuchNode, NoRoom, StepCounts, AbsolutePath, NoRoomToTurn, StepOnAttributes, NoSuchEdition}
 use Rattle.meaning.proofs.Bools.{is_true}
 use Rattle.meaning.proofs.Checks.{table_passes, table_stops}
 use Rattle.files.specs.Files.{bytes_of, Form, good, bad, HasForm}
@@ -19,22 +21,34 @@ use Rattle.files.specs.Answers.{needs, reading, rows_in, writing, ReadsTable}
 use Rattle.files.proofs.Forms.{holdable_length}
 
 -- an answer, and an output that has what was to be written exactly if the answer's number is 0
-abbrev pub Answered : Answer → List ℕ → List ℕ → ℕ → ℕ → List ℕ → Type 0
-Answered a front out number place out' = (answer number place ≡ a) × (out' ≡ output (answer number place) front out)
+abbrev pub Answered : Answer → List ℕ → List ℕ → Answer → List ℕ → Type 0
+Answered a front out told out' = (told ≡ a) × (out' ≡ output told front out)
 
-module _ (a : Answer) (front out : List ℕ) (number place : ℕ) (e : answer number place ≡ a) where
+module _ (a : Answer) (front out : List ℕ) (told : Answer) (e : told ≡ a) where
   -- a number that is not 0 leaves the output as it was
-  pub refuses : (number ≡ 0 → ⊥) → Answered a front out number place out
+  pub refuses : (told.number ≡ 0 → ⊥) → Answered a front out told out
   unfolding output
-  refuses n = (e, rw (ne_eqb number 0 n))
+  refuses n = (e, rw (ne_eqb told.number 0 n))
 
-  pub writes : (out' : List ℕ) → number ≡ 0 → out' ≡ front ++ drop (length front) out → Answered a front out number place out'
+  pub writes : (out' : List ℕ) → told.number ≡ 0 → out' ≡ front ++ drop (length front) out → Answered a front out told out'
   unfolding output
-  writes out' z w = (e, w ∙ rw (eq-eqb number 0 z))
+  writes out' z w = (e, w ∙ rw (eq-eqb told.number 0 z))
 
--- the same number and place are the same answer
-pub same_answer : {n m p q : ℕ} → n ≡ m → p ≡ q → answer n p ≡ answer m q
-same_answer e f = λ i. answer (e i) (f i)
+-- no refusal has number 0
+pub refused_some : (r : Refusal) → (refused r).number ≡ 0 → ⊥
+refused_some TableLength e = omega arith
+refused_some (BrokenRow i) e = omega arith
+refused_some PathLength e = omega arith
+refused_some (BadLiteral i) e = omega arith
+refused_some (BrokenPathRow i) e = omega arith
+refused_some TooDeep e = omega arith
+refused_some (NoSuchNode i) e = omega arith
+refused_some (NoRoom n) e = omega arith
+refused_some (StepCounts i) e = omega arith
+refused_some AbsolutePath e = omega arith
+refused_some (NoRoomToTurn n) e = omega arith
+refused_some (StepOnAttributes i) e = omega arith
+refused_some (NoSuchEdition n) e = omega arith
 
 -- the amount that is needed is there, or not
 pub enough : (amount room : ℕ) (next : Answer) → amount ≤ room → needs amount room next ≡ next
@@ -58,15 +72,13 @@ reads_no_1 file (good t) room h e =
     go false true e = omega arith
     go false false e = omega arith
 
-pub reads_bad : (file out : List ℕ) (k : ℕ) → HasForm most_rows file (bad k) → (number place : ℕ) → number ≡ 20 → place ≡ k → ReadsTable most_rows file out (answer number place) out
-unfolding reading
-reads_bad file out k h number place n p =
-    let r = refuses (reading (bad k) (length out)) (rows_in (bad k)) out number place (same_answer n p) (λ z. omega arith) in
-    (bad k, h, r.0, r.1)
+pub reads_bad : (file out : List ℕ) (k : ℕ) → HasForm most_rows file (bad k) → ReadsTable most_rows file out (answer 20 k) out
+unfolding reading output
+reads_bad file out k h = (bad k, h, refl, refl)
 
-pub reads_good : (file t out : List ℕ) → HasForm most_rows file (good t) → (number place : ℕ) (out' : List ℕ) → Answered (reading (good t) (length out)) t out number place out' → ReadsTable most_rows file out (answer number place) out'
+pub reads_good : (file t out : List ℕ) → HasForm most_rows file (good t) → (a : Answer) (out' : List ℕ) → Answered (reading (good t) (length out)) t out a out' → ReadsTable most_rows file out a out'
 unfolding rows_in
-reads_good file t out h number place out' r = (good t, h, r.0, r.1)
+reads_good file t out h a out' r = (good t, h, r.0, r.1)
 
 module _ (t : List ℕ) (room : ℕ) where
   pub read_short : room < length t → answer 21 (length t) ≡ reading (good t) room

@@ -8,17 +8,16 @@ use mathlib.Core.List.{List, ◌++◌, append_assoc, append-nil}
 use lib.ListN.{length, get_or, drop, set, length-set}
 use lib.Seq.{get_or-set_same, get_or-set_other, take-set-le}
 use lib.Dec.{T}
-use borrow.Author.Tests.{ne_eqb}
 use Rattle.meaning.specs.Table.{rows, most_rows, length_within}
 use Rattle.meaning.proofs.Bools.{eq_or_ne}
 use Rattle.meaning.proofs.Tables.{within_length}
 use Rattle.decimal.specs.Decimal.{ascii, most_number}
-use Rattle.decimal.specs.declared.Decimal.TheVariants.{Number, Nothing}
+use Rattle.std.specs.Prelude.{Some, Ok, Err}
+use Rattle.files.specs.declared.FileRefusal.TheVariants.{BadLine}
 use Rattle.files.specs.Files.{line, key, number_lines, joined, holdable, good, bad, HasForm}
-use Rattle.files.specs.Parts.{LineAt, heading, lines_before, Passed, HeadOf, form_from}
-use Rattle.files.specs.declared.reader.Head.TheVariants.{Rows, Bad}
+use Rattle.files.specs.Parts.{LineAt, heading, lines_before, Passed, HeadOf}
 use Rattle.files.proofs.Lines.{joined_more}
-use Rattle.files.proofs.Forms.{holdable_length, holdable_none, none_above, holdable_from, bad_number, bad_last, good_file}
+use Rattle.files.proofs.Forms.{holdable_length, holdable_none, none_above, holdable_from}
 
 -- a number of rows that can be held is replaced by one that fits
 holdable_set : (t : List ℕ) (i n : ℕ) → T (holdable most_rows t) → n ≤ most_number → T (holdable most_rows (set t i n))
@@ -31,7 +30,7 @@ holdable_set t i n h k =
     (eq_or_ne j i))
 
 -- the first two lines have been read: numbers as many as they say, whatever they are, begin the rest
-pub passed_none : (file : List ℕ) (at n : ℕ) (t : List ℕ) → HeadOf file (Rows n at) → length t ≡ 4 * n → ((i : ℕ) → i < length t → get_or t i 0 ≤ most_number) → Passed file at 0 t
+pub passed_none : (file : List ℕ) (at n : ℕ) (t : List ℕ) → HeadOf file (Ok (n, at)) → length t ≡ 4 * n → ((i : ℕ) → i < length t → get_or t i 0 ≤ most_number) → Passed file at 0 t
 unfolding HeadOf joined number_lines
 passed_none file at n t h l fit =
     let r : rows t ≡ n = omega arith in
@@ -41,21 +40,15 @@ passed_none file at n t h l fit =
       passed = rw (r, append-nil (line "nodes" n)) h.3;
     }
 
--- a head is bad as the file is
-pub head_bad : (file : List ℕ) (k : ℕ) → HeadOf file (Bad k) → HasForm most_rows file (bad k)
+-- what is refused of a head is its first bad line
+pub head_bad : (file : List ℕ) (k : ℕ) → HeadOf file (Err (BadLine k)) → HasForm most_rows file (bad k)
 unfolding HeadOf
-head_bad file k h = h
+head_bad file k (j, e, h) = let i : k ≡ j = cc in rw i h
 
-pub head_few : (file : List ℕ) (at n : ℕ) → HeadOf file (Rows n at) → n ≤ most_rows
+-- the rows that follow are within the limit
+pub head_few : (file : List ℕ) (at n : ℕ) → HeadOf file (Ok (n, at)) → n ≤ most_rows
 unfolding HeadOf
 head_few file at n h = h.1
-
--- the form that is told
-pub told_bad : (file t : List ℕ) (k : ℕ) → (k ≡ 0 → ⊥) → HasForm most_rows file (form_from k t) → HasForm most_rows file (bad k)
-told_bad file t k n h = rw (ne_eqb k 0 n) at h
-
-pub told_good : (file t : List ℕ) (k : ℕ) → k ≡ 0 → HasForm most_rows file (form_from k t) → HasForm most_rows file (good t)
-told_good file t k z h = rw z at h
 
 pub good_holds : (file t : List ℕ) → HasForm most_rows file (good t) → T (holdable most_rows t)
 unfolding HasForm
@@ -63,7 +56,7 @@ good_holds file t h = h.0
 
 module _ (file : List ℕ) (at i : ℕ) (t : List ℕ) (p : Passed file at i t) where
   -- one number more
-  pub passed_more : (n next : ℕ) → i < length t → LineAt (ascii (key i) ++ ascii "=") file at (Number n next) → Passed file next (i + 1) (set t i n)
+  pub passed_more : (n next : ℕ) → i < length t → LineAt (ascii (key i) ++ ascii "=") file at (Some (n, next)) → Passed file next (i + 1) (set t i n)
   unfolding LineAt line
   passed_more n next h l =
       let front : lines_before i (set t i n) ≡ lines_before i t = rw (length-set, take-set-le i t i n (omega arith)) in
@@ -75,14 +68,3 @@ module _ (file : List ℕ) (at i : ℕ) (t : List ℕ) (p : Passed file at i t) 
         inside = l.1;
         passed = p.passed ∙ rw (l.2, more) (sym (append_assoc (joined (lines_before i t)) (line (key i) n) (drop next file)));
       }
-
-  -- the line of number i is bad, or the one behind the last; or the file is good
-  pub refused_number : i < length t → LineAt (ascii (key i) ++ ascii "=") file at Nothing → HasForm most_rows file (form_from (i + 3) t)
-  unfolding LineAt line
-  refused_number h l = rw (ne_eqb (i + 3) 0 (λ e. omega arith)) (bad_number file at i t p h l)
-
-  pub refused_last : i ≡ length t → at < length file → HasForm most_rows file (form_from (i + 3) t)
-  refused_last h l = rw (ne_eqb (i + 3) 0 (λ e. omega arith)) (bad_last file at i t p h l)
-
-  pub taken : i ≡ length t → length file ≤ at → HasForm most_rows file (form_from 0 t)
-  taken h l = good_file file at i t p h l

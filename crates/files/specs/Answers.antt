@@ -1,10 +1,23 @@
 -- What the reader and the writer of table files give back, and what they promise (document 02, W-201). Each checks in the order that the
 -- request lists: the reader form (20), room (21), rows (2); the writer length (1), rows (2), room (21). A place counts lines, numbers or bytes.
 -- Assumes nothing: these are definitions.
-use Rattle.std.specs.Prelude.{ℕ, ◌≡◌, List, [], length, ltb}
-use Rattle.meaning.specs.Answers.{answer, check, table_checks, output}
+use Rattle.std.specs.Prelude.{ℕ, ◌≡◌, List, [], length, ltb, Result, Ok, Err}
+use Rattle.meaning.specs.Answers.{answer, refused, check, table_checks, output}
 use Rattle.meaning.specs.declared.Answer.{Answer}
+use Rattle.files.specs.declared.FileRefusal.{FileRefusal}
+use Rattle.files.specs.declared.FileRefusal.TheVariants.{BadLine, NoRoom, Table}
 use Rattle.files.specs.Files.{bytes_of, Form, good, bad, HasForm}
+
+-- a refusal of the reader or the writer as its number and place
+abbrev pub file_refused : FileRefusal → Answer
+file_refused (BadLine k) = answer 20 k
+file_refused (NoRoom amount) = answer 21 amount
+file_refused (Table r) = refused r
+
+-- what the reader or the writer gives back as a number and a place: 0 with its count, or its refusal
+abbrev pub file_told : Result ℕ FileRefusal → Answer
+file_told (Ok n) = answer 0 n
+file_told (Err r) = file_refused r
 
 -- 21: so much is needed, and the output holds less; else what follows
 abbrev pub needs : ℕ → ℕ → Answer → Answer

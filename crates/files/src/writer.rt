@@ -1,23 +1,20 @@
 // The writer of table files: one pass over the rows for the bytes needed, and one that writes.
 ghost use Rattle.std.specs.Prelude.{◌≡◌, ◌++◌, ◌+◌, ◌<◌, ◌≤◌, length, T};
 ghost use Rattle.meaning.specs.Table.{length_allowed};
-ghost use Rattle.meaning.specs.Answers.{answer};
 ghost use Rattle.decimal.specs.Decimal.{ascii, laid};
 ghost use Rattle.files.specs.Files.{line, key, number_lines, joined, bytes_of};
-ghost use Rattle.files.specs.Answers.{WritesTable};
+ghost use Rattle.files.specs.Answers.{file_told, WritesTable};
 ghost use Rattle.files.specs.Parts.{keyed};
 
-use basics::{WideAnswer, told};
+use crate::{FileRefusal, key};
 use decimal::width;
-use meaning::Answer;
 use table_check::check_table;
 
 // How many bytes the line of number i has.
 fn line_length(i: usize, n: u32) -> usize
     ensures { (result ≡ length (line (key i) n)) × (result ≤ 18) }
 {
-    let around = if i % 4 == 2 { 8 } else { 6 };
-    around + width(n)
+    key(i).len() + width(n) + 1
 }
 
 // How many bytes the file of a table has.
@@ -26,10 +23,8 @@ fn bytes_needed(table: &[u32]) -> usize
     ensures { result ≡ length (bytes_of table.now) }
 {
     let mut sum = 17 + width((table.len() / 4) as u32);
-    let mut i = 0;
-    while i < table.len() {
-        sum += line_length(i, table[i]);
-        i += 1;
+    for (i, n) in table.iter().enumerate() {
+        sum += line_length(i, *n);
     }
     sum
 }
@@ -60,13 +55,7 @@ fn put_number(out: &mut [u8], at: usize, i: usize, n: u32) -> usize
     requires { at + length (line (key i) n) ≤ length out.old }
     ensures { (result ≡ at + length (line (key i) n)) × (out.new ≡ laid out.old at (line (key i) n)) }
 {
-    let field = i % 4;
-    match field {
-        0 => put_line(out, at, b"kind=", n),
-        1 => put_line(out, at, b"name=", n),
-        2 => put_line(out, at, b"parent=", n),
-        _ => put_line(out, at, b"size=", n),
-    }
+    put_line(out, at, key(i), n)
 }
 
 // Writes the lines of a table's numbers from an index on.
@@ -75,10 +64,8 @@ fn put_numbers(table: &[u32], out: &mut [u8], from: usize)
     ensures { out.new ≡ laid out.old from (joined (number_lines 0 table.now)) }
 {
     let mut at = from;
-    let mut i = 0;
-    while i < table.len() {
-        at = put_number(out, at, i, table[i]);
-        i += 1;
+    for (i, n) in table.iter().enumerate() {
+        at = put_number(out, at, i, *n);
     }
 }
 
@@ -92,18 +79,15 @@ fn put_table(table: &[u32], out: &mut [u8])
     put_numbers(table, out, third);
 }
 
-// 1 and 2 as the table checker, 21 with the bytes needed, 0 with the bytes written.
-pub fn write_table(table: &[u32], out: &mut [u8]) -> WideAnswer
-    ensures { WritesTable table.now out.old (answer result.number result.place) out.new }
+// How many bytes were written; else what the table checker refuses, or the bytes that need room.
+pub fn write_table(table: &[u32], out: &mut [u8]) -> Result<u64, FileRefusal>
+    ensures { WritesTable table.now out.old (file_told result) out.new }
 {
-    let checked = Answer::from(check_table(table));
-    if checked.number != 0 {
-        return told(checked.number, checked.place as usize);
-    }
+    check_table(table)?;
     let needed = bytes_needed(table);
     if out.len() < needed {
-        return told(21, needed);
+        return Err(FileRefusal::NoRoom(needed as u64));
     }
     put_table(table, out);
-    told(0, needed)
+    Ok(needed as u64)
 }

@@ -1,34 +1,34 @@
--- The answers of `files::reader::read_numbers`: what its code leaves to show, by the invariants beside this file. Assumes nothing.
-use Prim.Native.Nat.{◌<◌}
-use native.Mathlib.Omega.{arith}
-use mathlib.Core.Path.{refl}
-use lib.ListN.{length, length-set}
-use Rattle.files.proofs.Passing.{passed_more, refused_number, refused_last, taken}
+-- The answers of `files::reader::read_numbers`: what its code leaves to show, by the invariant beside this file. Assumes nothing.
+use Rattle.std.proofs.Common.{◌≡◌, ◌+◌, length, refl, sym, ◌∙◌, arith}
+use Rattle.std.proofs.lemmas.Result.{err_from_is_err_and}
+use Rattle.files.specs.Files.{line}
+use Rattle.files.specs.Parts.{LineAt, NumbersOf}
+use Rattle.files.proofs.Keyed.{missing, present}
+use Rattle.files.proofs.Passing.{passed_more}
+use Rattle.files.proofs.Forms.{bad_number, bad_last, good_file}
 use Rattle.files.proofs.reader.read_numbers.Goals as goal
 
-pub loop-i-init : goal.loop-i-init
-loop-i-init c = (omega arith, refl, c.requires)
+pub read_number-requires : goal.read_number-requires
+read_number-requires c = c.loop-i.invariant.inside
 
-pub read_number-found-requires : goal.read_number-found-requires
-read_number-found-requires c = c.loop-i.invariant.2.inside
-
-pub returns-in_default : goal.returns-in_default
-returns-in_default c = refused_number _ _ _ _ c.loop-i.invariant.2 c.loop-i-test.true (rw c.in_default.is at c.read_number-found.ensures)
-
-pub loop-i-smaller : goal.loop-i-smaller
-loop-i-smaller c = rw length-set (omega arith)
+pub returns-in_err-n : goal.returns-in_err-n
+unfolding LineAt line NumbersOf
+returns-in_err-n c =
+    let m = missing _ _ _ (sym c.ok_or.ensures.value ∙ c.in_err-n.was) in
+    let p = err_from_is_err_and c.from_residual.result c.from_residual.ensures.1 in
+    rw p.1 (c.loop-i.i + 3, p.2 ∙ m.1, bad_number _ _ _ _ c.loop-i.invariant (omega arith) (rw m.0 at c.read_number.ensures))
 
 pub loop-i-preserved : goal.loop-i-preserved
 loop-i-preserved c =
-    let l = c.loop-i in
-    let h : l.i < length l.numbers = c.loop-i-test.true in (
-      rw length-set (omega arith),
-      rw length-set l.invariant.1,
-      passed_more _ _ _ _ l.invariant.2 _ _ h (rw c.in-Number.is at c.read_number-found.ensures),
-    )
+    let l = present _ _ _ _ (sym c.ok_or.ensures.value ∙ c.in_ok-n.was) in
+    passed_more _ _ _ _ c.loop-i.invariant _ _ (omega arith) (rw l at c.read_number.ensures)
 
 pub returns-then-at-file : goal.returns-then-at-file
-returns-then-at-file c = refused_last _ _ _ _ c.loop-i.invariant.2 (omega arith) c.if-at-file.true
+unfolding NumbersOf
+returns-then-at-file c =
+    let e : length c.loop-i.numbers ≡ c.loop-i.i = omega arith in
+    rw e (c.loop-i.i + 3, refl, bad_last _ _ _ _ c.loop-i.invariant (sym e) c.if-at-file.true)
 
 pub returns : goal.returns
-returns c = taken _ _ _ _ c.loop-i.invariant.2 (omega arith) c.if-at-file.false
+unfolding NumbersOf
+returns c = good_file _ _ _ _ c.loop-i.invariant (omega arith) c.if-at-file.false

@@ -1,29 +1,37 @@
--- `files::reader::read_rows` meets its contract: each buffer holds the numbers of the tables that are read into it.
+-- `files::reader::read_rows` meets its contract: the buffer has room for the numbers, and what is read into it is handed over.
 -- Assumes nothing.
-use Prim.Native.Nat.{ℕ, ◌*◌, ◌≤◌}
-use native.Mathlib.Omega.{arith}
-use mathlib.Core.Path.{◌≡◌, sym}
-use lib.ListN.{length, take, replicate, length-replicate}
-use lib.Seq.{length-take-le}
-use Rattle.meaning.specs.Table.{most_rows}
-use Rattle.files.proofs.Passing.{head_few}
+use Rattle.std.proofs.Common.{◌≡◌, ℕ, ◌*◌, ◌≤◌, ◌<◌, length, get_or, arith}
+use Rattle.std.proofs.Math.ListN.{replicate}
+use Rattle.std.proofs.lemmas.List.{length-replicate, get_or-replicate, take-replicate}
+use Rattle.std.proofs.lemmas.Result.{err_from_is_err_and}
+use Rattle.decimal.specs.Decimal.{most_number}
+use Rattle.files.specs.Parts.{NumbersOf}
+use Rattle.files.proofs.Passing.{passed_none, good_holds}
+use Rattle.files.proofs.Outcome.{reads_bad, reads_good}
 use Rattle.files.proofs.reader.read_rows.Goals as goal
 
--- the part of a buffer that is lent has its length
-lent : (room n : ℕ) → n ≤ room → length (take n (replicate {A = ℕ} room 0)) ≡ n
-lent room n h = let e : length (replicate {A = ℕ} room 0) ≡ room = length-replicate {A = ℕ} room 0 in length-take-le n (replicate {A = ℕ} room 0) (omega arith)
+pub whole_as_front-numbers : goal.whole_as_front-numbers
+whole_as_front-numbers c = λ d. (d.requires.1, omega arith)
 
-pub overflow_mul-numbers : goal.overflow_mul-numbers
-overflow_mul-numbers c = omega (arith, head_few _ _ _ c.requires)
+pub read_numbers-requires : goal.read_numbers-requires
+read_numbers-requires c = λ d.
+    let n = 4 * d.args.count in
+    let l : length (replicate {A = ℕ} n 0) ≡ n = length-replicate {A = ℕ} n 0 in
+    let fit : (i : ℕ) → i < length (replicate {A = ℕ} n 0) → get_or (replicate {A = ℕ} n 0) i 0 ≤ most_number =
+    λ i h. let z : get_or (replicate {A = ℕ} n 0) i 0 ≡ 0 = get_or-replicate {A = ℕ} n i 0 0 (omega arith) in omega arith in
+    rw (take-replicate {X = ℕ} n c.row.N 0 d.requires.1) (passed_none _ _ _ (replicate {A = ℕ} n 0) d.requires.0 l fit)
 
-pub slice_bounds-read_into-end : goal.slice_bounds-read_into-end
-slice_bounds-read_into-end c = sym (lent 4096 _ c.if-numbers-le-FEW_NUMBERS.true)
+pub returns-in_err-read_numbers : goal.returns-in_err-read_numbers
+unfolding NumbersOf
+returns-in_err-read_numbers c = λ d.
+    let p = err_from_is_err_and d.from_residual.result d.from_residual.ensures.1 in
+    let b = d.in_err-read_numbers.ensures in
+    rw (p.1, p.2, b.1) (reads_bad _ _ _ b.2)
 
-pub read_into-requires : goal.read_into-requires
-read_into-requires c = (c.requires, lent 4096 _ c.if-numbers-le-FEW_NUMBERS.true)
+pub hand_over-requires : goal.hand_over-requires
+unfolding NumbersOf
+hand_over-requires c = λ d. good_holds _ _ d.in_ok-read_numbers.ensures
 
-pub slice_bounds-read_into-end-2 : goal.slice_bounds-read_into-end-2
-slice_bounds-read_into-end-2 c = sym (lent (4 * most_rows) _ (omega (arith, head_few _ _ _ c.requires)))
-
-pub read_into-requires-2 : goal.read_into-requires-2
-read_into-requires-2 c = (c.requires, lent (4 * most_rows) _ (omega (arith, head_few _ _ _ c.requires)))
+pub returns : goal.returns
+unfolding NumbersOf
+returns c = λ d. reads_good _ _ _ d.in_ok-read_numbers.ensures _ _ d.hand_over.ensures
