@@ -2,15 +2,8 @@
 -- chain of steps back, over rows that are near, and what is near; a step that does not count, taken from all marked nodes at
 -- once, reaches the union of what it reaches from each; truths decided for all rows.
 -- Assumes nothing.
-use Prim.Native.Nat.{ℕ, ◌+◌, ◌-◌, ◌<◌}
-use mathlib.Core.Path.{◌≡◌, refl, sym, ◌∙◌}
-use mathlib.Core.Bool.{Bool, true, false, ◌&&◌, cond, and_assoc, and-true}
-use mathlib.Core.List.{List}
-use lib.ListN.{length, get_or}
-use lib.Dec.{ltb, eqb}
-use lib.Ieee.{Float}
-use native.Mathlib.Omega.{arith}
-use borrow.Author.Tests.{eq-eqb}
+use Rattle.std.proofs.Common.{◌≡◌, refl, sym, ◌∙◌, ℕ, ◌+◌, ◌-◌, ◌<◌, Bool, true, false, ◌&&◌, cond, List, length, get_or, ltb, eqb, Float, eq-eqb, arith}
+use Rattle.std.proofs.Math.Bool.{and_assoc, and-true}
 use Rattle.meaning.specs.Lists.{up_to, some, has}
 use Rattle.meaning.specs.Table.{rows}
 use Rattle.meaning.specs.Axis.{axis_of, test_of, on, principal, passes}

@@ -79,24 +79,24 @@ impl Evaluation<'_> {
         apply(self.literals, op, index, none, none, 0, context)
     }
 
-    // Filters the first n nodes of the list, in place, by the chain of predicates that a link names; the first of them works first.
-    // Positions run from 1 over what the predicates before it kept, and the size is how many they kept.
+    // Filters a list of nodes, in place, by the chain of predicates that a link names, the first of them first, and gives how many it keeps:
+    // they stand at the front. Positions run from 1 over what the predicates before it kept, and the size is how many they kept.
     #[cycle(selection)]
-    fn keep(&self, link: usize, list: &mut [u16], n: usize) -> usize
-        requires { (link ≤ most_path_rows) × (n ≤ most_rows) × (length list.old ≡ most_rows) }
-        ensures { (take result list.new ≡ Meaning.filtered self.now.edition self.now.table.now self.now.literals.now (tree self.now.path.now link) (take n list.old)) × (result ≤ n) }
+    fn keep(&self, link: usize, nodes: &mut [u16]) -> usize
+        requires { (link ≤ most_path_rows) × (length nodes.old ≤ most_rows) }
+        ensures { (take result nodes.new ≡ Meaning.filtered self.now.edition self.now.table.now self.now.literals.now (tree self.now.path.now link) nodes.old) × (result ≤ length nodes.old) }
     {
         if link == 0 {
-            return n;
+            return nodes.len();
         }
         let row = link - 1;
         let before = first_link(self.path, row);
-        let k = self.keep(before, list, n);
+        let k = self.keep(before, nodes);
         let test = second_link(self.path, row);
         let size = float_of(k);
         let mut m = 0;
         for i in 0..k {
-            let y = list[i];
+            let y = nodes[i];
             let node = y as usize;
             let position = float_of(i + 1);
             let context = Context {
@@ -106,7 +106,7 @@ impl Evaluation<'_> {
             };
             let v = self.expression(test, context);
             if keeps(v, position) {
-                list[m] = y;
+                nodes[m] = y;
                 m += 1;
             }
         }
@@ -120,7 +120,7 @@ impl Evaluation<'_> {
         ensures { (y : ℕ) → y < length next.old → get_or next.new y false ≡ (get_or next.old y false || has (step_to self.now.edition self.now.table.now self.now.literals.now self.now.path.now step.predicates step.axis step.test x) y) }
     {
         let k = list_candidates(self.edition, self.table, step.axis, step.test, x, list);
-        let m = self.keep(step.predicates, list, k);
+        let m = self.keep(step.predicates, &mut list[..k]);
         add_marks(list, m, next);
     }
 

@@ -1,19 +1,13 @@
 -- The members of the cycle meet their contracts: what the check doesn't find alone.
 -- Assumes nothing.
-use Prim.Native.Nat.{ℕ, ◌+◌, ◌≤◌, ◌<◌}
+use Rattle.std.proofs.Common.{◌≡◌, refl, sym, ap, ◌∙◌, ℕ, ◌+◌, ◌<◌, ◌≤◌, Bool, true, false, not, List, length, get_or, take, drop, replicate, length-set, length-take-le, take_all, rules, arith}
+use Rattle.std.proofs.lemmas.List.{get_or-replicate, take-append-le}
 use Rattle.meaning.proofs.Evaluation.{kept_by_lem, filtered_none, filtered_row, select_none, select_row, value_none, value_over_path, value_leaf, value_one, value_two, value_decided, walk_none, walk_row}
 use Rattle.meaning.proofs.Filters.{kept_start, kept_skip, kept_more, kept_done}
 use Rattle.meaning.proofs.Marks.{no_marks, reached_start, reached_skip, reached_more, reached_done}
 use Rattle.meaning.specs.Table.{most_rows, rows}
 use Rattle.select.proofs.Sets.{absolute_decided, relative_decided, all_decided, near_decided, led_by, led_none, led_row, narrowed_none, narrowed_by, settled_low, not_decided, raised_low, pair_decided, strode, thinned_none, thinned_row, put_low}
 use Rattle.sieve.proofs.Sieves.{sieved_bounded, sieved_start, sieved_skip, sieved_write, sieved_done}
-use borrow.Author.Rules.{rules}
-use lib.ListN.{get_or-replicate, length, get_or, replicate, length-set}
-use lib.Seq.{length-take-le}
-use mathlib.Core.Bool.{Bool, true, false, not}
-use mathlib.Core.List.{List}
-use mathlib.Core.Path.{sym, ◌∙◌, ◌≡◌, ap, refl}
-use native.Mathlib.Omega.{arith}
 use Rattle.select.proofs.evaluation.Evaluation.+selection.Goals as goal
 use Rattle.select.proofs.evaluation.Evaluation.+selection.Goals.{decide_back-then-heavy, decide_back-else-heavy, decide_each-then-states-node, decide_each-else-states-node, keep-then-keeps, keep-else-keeps, step-then-marks-x, step-else-marks-x}
 
@@ -103,26 +97,26 @@ expression-returns t c = search value_leaf
 -- the first i, and what follows is still to come.
 
 pub keep-returns-then-link-eq0 : goal.keep-returns-then-link-eq0
-keep-returns-then-link-eq0 t c = search (filtered_none, rules)
+keep-returns-then-link-eq0 t c = (take_all _ _ (omega arith) ∙ filtered_none _ _ _ _ _ _ c.if-link-eq0.true, omega arith)
 
 pub keep-loop-i-init : goal.keep-loop-i-init
-keep-loop-i-init t c = (omega arith, omega arith, kept_start _ _ _)
+keep-loop-i-init t c = (omega arith, refl, kept_start _ _ _)
 
 pub keep-loop-i-preserved : goal.keep-loop-i-preserved
 keep-loop-i-preserved t c =
     let more : c.loop-i.i < c.keep-k.result = omega arith in
-    let fit : c.keep-k.result ≤ length c.loop-i.list = omega (arith, c.loop-i.invariant, c.keep-k.ensures.1, c.requires) in
+    let fit : c.keep-k.result ≤ length c.loop-i.nodes = omega (arith, c.loop-i.invariant, c.keep-k.ensures.1, c.requires) in
     elim c.if-keeps.branch [
       | keep-then-keeps w ↦ (
         omega (arith, c.loop-i.invariant),
-        ap length w.list-is ∙ simp length-set c.loop-i.invariant.1,
-        rw (w.list-is, w.m-is) (kept_more _ _ _ _ _ _ c.loop-i.invariant.2 c.loop-i.invariant.0 more fit
+        ap length w.nodes-is ∙ simp length-set c.loop-i.invariant.1,
+        rw (w.nodes-is, w.m-is) (kept_more _ _ _ _ _ _ c.loop-i.invariant.2 c.loop-i.invariant.0 more fit
             (kept_by_lem _ _ _ _ _ _ _ _ _ _ _ _ _ _ refl c.float_of-position.ensures.0 c.float_of-size.ensures.0 c.expression-v.ensures c.keeps.ensures w.if-keeps.true)),
       )
       | keep-else-keeps w ↦ (
         omega (arith, c.loop-i.invariant),
-        ap length w.list-is ∙ c.loop-i.invariant.1,
-        rw (w.list-is, w.m-is) (kept_skip _ _ _ _ _ _ c.loop-i.invariant.2 more fit
+        ap length w.nodes-is ∙ c.loop-i.invariant.1,
+        rw (w.nodes-is, w.m-is) (kept_skip _ _ _ _ _ _ c.loop-i.invariant.2 more fit
             (kept_by_lem _ _ _ _ _ _ _ _ _ _ _ _ _ _ refl c.float_of-position.ensures.0 c.float_of-size.ensures.0 c.expression-v.ensures c.keeps.ensures w.if-keeps.false)),
       )
     ]
@@ -155,6 +149,13 @@ select-returns-then-link-eq0 t c = search select_none
 
 pub select-returns : goal.select-returns
 select-returns t c = search select_row
+
+-- `spread`: the candidates are listed, filtered and marked, each by its function's contract.
+
+pub spread-returns : goal.spread-returns
+spread-returns t c =
+    let fit : c.keep-m.result ≤ length c.keep-m.new.nodes = omega (arith, c.keep-m.ensures.1, c.keep-m.auto) in
+    rw (← c.list_candidates-k.ensures.0, ← c.keep-m.ensures.0, ← take-append-le _ _ (drop c.list_candidates-k.result c.list_candidates-k.new.list) fit) c.add_marks.ensures
 
 -- `step`: the loop's invariant is that next has what the marked nodes below x reach, and lengths are as they were.
 

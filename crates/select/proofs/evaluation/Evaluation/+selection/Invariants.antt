@@ -1,7 +1,7 @@
 -- The cycle's measures and the invariants of its loops. The measure is the link, four times, plus one for a member that calls another at its
 -- own link, two for one that calls such a one (a step, an existence), and three for a truth, which may call that.
 -- Assumes nothing.
-use Prim.Native.Nat.{◌+◌, ◌*◌, ◌-◌, ◌≤◌}
+use Rattle.std.proofs.Common.{◌≡◌, ◌+◌, ◌*◌, ◌≤◌, length}
 use Rattle.meaning.proofs.Evaluation.{kept_by, step_to}
 use Rattle.meaning.proofs.Filters.{Kept}
 use Rattle.meaning.proofs.Free.{true_at}
@@ -9,8 +9,6 @@ use Rattle.meaning.proofs.Marks.{Reached}
 use Rattle.meaning.specs.Table.{most_rows, rows}
 use Rattle.meaning.specs.Tree.{tree}
 use Rattle.sieve.specs.Sieve.{SievedTo}
-use lib.ListN.{length}
-use mathlib.Core.Path.{◌≡◌}
 use Rattle.select.proofs.evaluation.Evaluation.+selection.Given as goal
 
 abbrev pub decreases-back : goal.decreases-back
@@ -76,8 +74,8 @@ invariant-decide_each-loop-node l =
 abbrev pub invariant-keep-loop-i : goal.invariant-keep-loop-i
 invariant-keep-loop-i l =
     (l.m ≤ l.i)
-    × (length l.list ≡ most_rows)
-    × Kept (kept_by l.self.edition l.self.table.now l.self.literals.now l.self.path.now l.test l.k) l.k l.initial.list l.list l.m l.i
+    × (length l.nodes ≡ length l.initial.nodes)
+    × Kept (kept_by l.self.edition l.self.table.now l.self.literals.now l.self.path.now l.test l.k) l.k l.initial.nodes l.nodes l.m l.i
 
 abbrev pub invariant-step-loop-x : goal.invariant-step-loop-x
 invariant-step-loop-x l =
