@@ -118,7 +118,7 @@ module _ (edition : ℕ) (t : List ℕ) (literals : List Float) where
     true_exists = refl
 
 -- only Absolute is absolute
-not_absolute : (op : Op) → (op ≡ Absolute → ⊥) → is_absolute op ≡ false
+pub not_absolute : (op : Op) → (op ≡ Absolute → ⊥) → is_absolute op ≡ false
 unfolding is_absolute
 not_absolute op q = ne_eqb (code op) 23 (λ e. q (sym (op_code op) ∙ rw e (unfold op_of in refl)))
 

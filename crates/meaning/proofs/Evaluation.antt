@@ -28,48 +28,6 @@ use Rattle.meaning.proofs.Trees.{tree_zero, tree_row}
 use Rattle.meaning.proofs.Applied.{takes_first, takes_second, second_first, operands_no_path, applied_agrees, decides, decided}
 use Rattle.meaning.proofs.Marks.{listed, listed_none}
 
--- ---- ops by their numbers
-
-pub takes_first_ops : (n : ℕ) → takes_first (op_of n) ≡ (leb 4 n && leb n 19)
-unfolding op_of code takes_first some up_to
-takes_first_ops = agree (λ n. takes_first (op_of n)) (λ n. leb 4 n && leb n 19) 26 refl
-    (λ n h. rw (op_past n h, lt-leb n 19 (omega arith)) (sym (go (leb 4 n))))
-  where
-    go : (b : Bool) → (b && false) ≡ false
-    go true = refl
-    go false = refl
-
-pub takes_second_ops : (n : ℕ) → takes_second (op_of n) ≡ ((leb 4 n && leb n 17) && not (eqb n 9))
-unfolding op_of code takes_first takes_second some up_to
-takes_second_ops = agree (λ n. takes_second (op_of n)) (λ n. (leb 4 n && leb n 17) && not (eqb n 9)) 26 refl
-    (λ n h. rw (op_past n h, lt-leb n 17 (omega arith)) (sym (go (leb 4 n) (not (eqb n 9)))))
-  where
-    go : (b c : Bool) → ((b && false) && c) ≡ false
-    go true c = refl
-    go false c = refl
-
--- an op that is none of 1 to 21 is no expression
-pub no_expression : (literals : List Float) (n i : ℕ) (u v : Value) (m : ℕ) (x : Context) → NoneOf 21 n → Truth false ≡ applied literals (op_of n) i u v m x
-unfolding applied op_of
-no_expression literals n i u v m x f = elim (eq_or_ne n 0) [
-  | inl e ↦ rw e
-  | inr e0 ↦ elim (eq_or_ne n 22) [
-    | inl e ↦ rw e
-    | inr e22 ↦ elim (eq_or_ne n 23) [
-      | inl e ↦ rw e
-      | inr e23 ↦ elim (eq_or_ne n 24) [
-        | inl e ↦ rw e
-        | inr e24 ↦ elim (eq_or_ne n 25) [
-          | inl e ↦ rw e
-          | inr e25 ↦
-              let l : 21 < n = none_past 21 n (omega arith) f in
-              rw (op_past n (past 25 n (past 24 n (past 23 n (past 22 n l e22) e23) e24) e25))
-        ]
-      ]
-    ]
-  ]
-]
-
 -- ---- rows
 
 module _ (edition : ℕ) (t : List ℕ) (literals : List Float) (p : List ℕ) (l : ℕ) where

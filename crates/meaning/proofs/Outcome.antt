@@ -21,25 +21,25 @@ use Rattle.meaning.specs.declared.Refusal.TheVariants.{TableLength, BrokenRow, P
 use Rattle.meaning.proofs.Tables.{few_rows}
 use Rattle.meaning.proofs.Checks.{table_passes, table_stops, table_accepted, path_accepted, path_passes, path_stops, most_rows_lem}
 
--- the number of no refusal is 0
-pub refusal_number : (r : Refusal) → (refused r).number ≡ 0 → ⊥
-refusal_number TableLength z = omega (arith, z)
-refusal_number (BrokenRow i) z = omega (arith, z)
-refusal_number PathLength z = omega (arith, z)
-refusal_number (BadLiteral i) z = omega (arith, z)
-refusal_number (BrokenPathRow r) z = omega (arith, z)
-refusal_number TooDeep z = omega (arith, z)
-refusal_number (NoSuchNode x) z = omega (arith, z)
-refusal_number (NoRoom n) z = omega (arith, z)
-refusal_number (StepCounts k) z = omega (arith, z)
-refusal_number AbsolutePath z = omega (arith, z)
-refusal_number (NoRoomToTurn n) z = omega (arith, z)
-refusal_number (StepOnAttributes k) z = omega (arith, z)
-refusal_number (NoSuchEdition edition) z = omega (arith, z)
+-- a refusal's number is not 0
+pub refusal_number : (r : Refusal) → 0 < (refused r).number
+refusal_number TableLength = omega arith
+refusal_number (BrokenRow i) = omega arith
+refusal_number PathLength = omega arith
+refusal_number (BadLiteral i) = omega arith
+refusal_number (BrokenPathRow r) = omega arith
+refusal_number TooDeep = omega arith
+refusal_number (NoSuchNode x) = omega arith
+refusal_number (NoRoom n) = omega arith
+refusal_number (StepCounts k) = omega arith
+refusal_number AbsolutePath = omega arith
+refusal_number (NoRoomToTurn n) = omega arith
+refusal_number (StepOnAttributes k) = omega arith
+refusal_number (NoSuchEdition edition) = omega arith
 
--- an answer that a refusal is has no 0
+-- nor is that of an answer that a refusal is
 refused_number : (r : Refusal) (a : Answer) → refused r ≡ a → a.number ≡ 0 → ⊥
-refused_number r a e z = refusal_number r (ap (λ (a : Answer). a.number) e ∙ z)
+refused_number r a e z = omega (arith, refusal_number r, ap (λ (a : Answer). a.number) e, z)
 
 -- a table whose answer is 0 has at most 8,192 rows, a path whose answer is 0 at most 256
 pub table_fits : (t : List ℕ) → (table_answer t).number ≡ 0 → rows t ≤ most_rows
@@ -56,7 +56,7 @@ module _ (edition : ℕ) (t p : List ℕ) (literals : List Float) (start : ℕ) 
   -- a refusal leaves the output as it was
   unwritten : (r : Refusal) → refused r ≡ evaluation edition t p literals start (length out) → Promised (refused r) out
   unfolding evaluated output
-  unwritten r e = (e, rw (← e, ne_eqb (refused r).number 0 (refusal_number r)))
+  unwritten r e = (e, rw (← e, ne_eqb (refused r).number 0 (λ z. omega (arith, refusal_number r, z))))
 
   -- 14: no edition
   pub edition_refused : is_edition edition ≡ false → Promised (answer 14 edition) out

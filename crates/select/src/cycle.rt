@@ -30,17 +30,19 @@ use sieve::{choose, exchange, lower, put_out, raise, retain, settle, settle_all}
 use table::row_count;
 use values::{apply, float_of, is_decided, keeps, takes_first, takes_second, truth_of};
 
-// The step of a row.
-fn step_at(path: &[u32], row: usize) -> Step
-    requires { row ≤ most_path_rows }
-    ensures predicates { (result.predicates ≡ second_link path.now row) × (result.predicates ≤ row) }
-    ensures axis { result.axis ≡ axis_of (index_or_axis path.now row) }
-    ensures test { result.test ≡ test_of (test_at path.now row) }
-{
-    Step {
-        predicates: second_link(path, row),
-        axis: axis_at(path, row),
-        test: node_test_at(path, row),
+impl Step {
+    // The step of a path's row.
+    fn of_row(path: &[u32], row: usize) -> Self
+        requires { row ≤ most_path_rows }
+        ensures predicates { (result.predicates ≡ second_link path.now row) × (result.predicates ≤ row) }
+        ensures axis { result.axis ≡ axis_of (index_or_axis path.now row) }
+        ensures test { result.test ≡ test_of (test_at path.now row) }
+    {
+        Step {
+            predicates: second_link(path, row),
+            axis: axis_at(path, row),
+            test: node_test_at(path, row),
+        }
     }
 }
 
@@ -212,7 +214,7 @@ impl Evaluation<'_> {
             return;
         }
         let row = link - 1;
-        self.step_back(step_at(self.path, row), near, marks);
+        self.step_back(Step::of_row(self.path, row), near, marks);
         let before = first_link(self.path, row);
         self.back(before, near, marks);
     }
@@ -345,7 +347,7 @@ impl Evaluation<'_> {
         let last = link - 1;
         let before = first_link(self.path, last);
         self.walk(before, marks);
-        let step = step_at(self.path, last);
+        let step = Step::of_row(self.path, last);
         if counting(self.path, step.predicates) {
             self.step(step, marks);
             return;

@@ -6,7 +6,8 @@ ghost use Rattle.select.specs.Rooted.{Rooted-prop};
 
 use meaning::{Axis, Test};
 
-// A path with its literals, on a table, in an edition: the table is not longer than the buffers, and its parents are rows.
+// A path with its literals, on a table, in an edition: the table is not longer than the buffers, and no row's parent stands after it.
+// The edition stays a number, since the definitions and every crate below take it as one: an enum would be turned into it at each use.
 #[derive(Clone, Copy)]
 pub struct Evaluation<'a> {
     pub edition: usize,

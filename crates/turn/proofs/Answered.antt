@@ -14,7 +14,6 @@ use Rattle.meaning.specs.Rows.{op_of, op_at, field, code, is_literal, fields_of,
 use Rattle.meaning.specs.declared.Op.{Op}
 use Rattle.meaning.specs.declared.Op.TheVariants.{Absolute, Relative}
 use Rattle.meaning.specs.declared.Refusal.{Refusal}
-use Rattle.meaning.specs.declared.Refusal.TheVariants.{TableLength, BrokenRow, PathLength, BadLiteral, BrokenPathRow, TooDeep, NoSuchNode, NoRoom, StepCounts, AbsolutePath, NoRoomToTurn, StepOnAttributes, NoSuchEdition}
 use Rattle.meaning.specs.Tree.{none, node, tree, index_or_axis, test_at}
 use Rattle.meaning.specs.Meaning.{is_absolute}
 use Rattle.meaning.specs.Turning.{first_step, is_counting, is_of_attributes, turned, weight, link, row, written}
@@ -26,6 +25,7 @@ use Rattle.meaning.proofs.Ops.{op_code}
 use Rattle.meaning.proofs.Trees.{first_le, tree_zero, tree_row}
 use Rattle.meaning.proofs.Exactly.{AcceptedPath}
 use Rattle.meaning.proofs.Checks.{path_accepted, path_passes, path_stops, most_rows_lem}
+use Rattle.meaning.proofs.Outcome.{refusal_number}
 use Rattle.meaning.proofs.Paths.{some_path_row, top_is_path, all_rows}
 use Rattle.meaning.proofs.ReadBack.{length_written, link_zero}
 use Rattle.meaning.proofs.Demand.{relative_is}
@@ -78,22 +78,6 @@ module _ (p : List ℕ) (n last : ℕ) (is-n : n ≡ rows_of p) (is_last : last 
       rw (← w) (e ∙ sets_behind C R out x 0 (5 * at) f.1 (omega arith) ∙ sets_front (C ++ R) out h)
 
 -- ---- the answers
-
--- a refusal's number is not 0
-refusal_number : (r : Refusal) → 0 < (refused r).number
-refusal_number TableLength = omega arith
-refusal_number (BrokenRow i) = omega arith
-refusal_number PathLength = omega arith
-refusal_number (BadLiteral i) = omega arith
-refusal_number (BrokenPathRow r) = omega arith
-refusal_number TooDeep = omega arith
-refusal_number (NoSuchNode x) = omega arith
-refusal_number (NoRoom n) = omega arith
-refusal_number (StepCounts k) = omega arith
-refusal_number AbsolutePath = omega arith
-refusal_number (NoRoomToTurn n) = omega arith
-refusal_number (StepOnAttributes k) = omega arith
-refusal_number (NoSuchEdition e) = omega arith
 
 module _ (p : List ℕ) (literals : List Float) (out : List ℕ) where
   -- a refusal leaves the output as it is

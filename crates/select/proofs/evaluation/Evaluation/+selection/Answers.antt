@@ -11,6 +11,10 @@ use Rattle.sieve.proofs.Sieves.{sieved_bounded, sieved_start, sieved_skip, sieve
 use Rattle.select.proofs.evaluation.Evaluation.+selection.Goals as goal
 use Rattle.select.proofs.evaluation.Evaluation.+selection.Goals.{decide_back-then-heavy, decide_back-else-heavy, decide_each-then-states-node, decide_each-else-states-node, keep-then-keeps, keep-else-keeps, step-then-marks-x, step-else-marks-x}
 
+-- a buffer that is filled with one value has it at each row
+filled : {A : Type 0} (v d : A) (n : ℕ) → n ≤ most_rows → (y : ℕ) → y < n → get_or (replicate most_rows v) y d ≡ v
+filled v d n small y l = get_or-replicate most_rows y v d (omega (arith, small, l))
+
 -- `back`: the last step back, then those before it.
 
 pub back-returns-then-link-eq0 : goal.back-returns-then-link-eq0
@@ -18,17 +22,17 @@ back-returns-then-link-eq0 t c = led_none _ _ _ _ _ _ _ c.if-link-eq0.true
 
 pub back-returns : goal.back-returns
 back-returns t c =
-    let step = c.step_at.ensures in
+    let step = c.of_row.ensures in
     led_row _ _ _ _ _ c.if-link-eq0.false _ _ c.first_link-before.ensures.0 step.predicates.0 _ _ _ _ _ _ step.axis step.test c.step_back.ensures c.back.ensures
 
 -- `decide_back`: back from all rows, over all rows where nothing is heavy, else over those that the chain may come by.
 
 pub decide_back-returns : goal.decide_back-returns
 decide_back-returns t c =
-    let full : (y : ℕ) → y < rows c.args.self.now.table.now → get_or (replicate most_rows true) y false ≡ true = λ y l. get_or-replicate most_rows y true false (omega (arith, l, c.args.self.now.small)) in
+    let full = filled true false (rows c.args.self.now.table.now) c.args.self.now.small in
     elim c.if-heavy.branch [
       | decide_back-then-heavy w ↦ near_decided _ _ _ _ _ _ _ _ _ _ _ c.row_count-n.ensures full c.back.ensures c.settle.ensures (rw (sym w.near-is) at w.cover_active.ensures)
-      | decide_back-else-heavy w ↦ all_decided _ _ _ _ _ _ _ _ _ _ _ c.row_count-n.ensures full c.back.ensures c.settle.ensures (λ y l. ap (λ (n : List Bool). get_or n y false) w.near-is ∙ get_or-replicate most_rows y _ false (omega (arith, l, c.args.self.now.small)) ∙ ap not w.if-heavy.false)
+      | decide_back-else-heavy w ↦ all_decided _ _ _ _ _ _ _ _ _ _ _ c.row_count-n.ensures full c.back.ensures c.settle.ensures (λ y l. ap (λ (n : List Bool). get_or n y false) w.near-is ∙ filled _ false _ c.args.self.now.small y l ∙ ap not w.if-heavy.false)
     ]
 
 -- `decide_each`. The loop's invariant: the active states of the rows passed are decided.
@@ -136,11 +140,11 @@ narrow-returns-then-link-eq0 t c = narrowed_none _ _ _ _ _ _ c.if-link-eq0.true
 
 pub narrow-thin-requires : goal.narrow-thin-requires
 narrow-thin-requires t c =
-    (search rules, (search rules, search rules, settled_low c.args.self.now.table.now _ c.row_count-n.ensures c.args.marks.now _ _ (λ y k. get_or-replicate most_rows y 2 0 (omega (arith, c.row_count-n.ensures, c.args.self.now.small))) c.settle.ensures))
+    (search rules, (search rules, search rules, settled_low c.args.self.now.table.now _ c.row_count-n.ensures c.args.marks.now _ _ (filled 2 0 _ (omega (arith, c.row_count-n.ensures, c.args.self.now.small))) c.settle.ensures))
 
 pub narrow-returns : goal.narrow-returns
 narrow-returns t c =
-    narrowed_by _ _ _ _ _ _ _ _ _ _ c.row_count-n.ensures (λ y k. get_or-replicate most_rows y 2 0 (omega (arith, c.row_count-n.ensures, c.args.self.now.small))) c.settle.ensures c.thin.ensures.0 c.retain.ensures
+    narrowed_by _ _ _ _ _ _ _ _ _ _ c.row_count-n.ensures (filled 2 0 _ (omega (arith, c.row_count-n.ensures, c.args.self.now.small))) c.settle.ensures c.thin.ensures.0 c.retain.ensures
 
 -- `select`: a path walks its steps from its start; link 0 selects nothing.
 
@@ -225,10 +229,10 @@ walk-returns-then-link-eq0 t c = search (walk_none, rules)
 
 pub walk-returns-then-counting : goal.walk-returns-then-counting
 walk-returns-then-counting t c =
-    let step = c.step_at-step.ensures in
+    let step = c.of_row-step.ensures in
     walk_row _ _ _ _ _ c.if-link-eq0.false _ _ _ _ _ _ _ c.first_link-before.ensures.0 step.predicates.0 step.axis step.test c.walk.ensures c.step.ensures
 
 pub walk-returns : goal.walk-returns
 walk-returns t c =
-    let step = c.step_at-step.ensures in
+    let step = c.of_row-step.ensures in
     walk_row _ _ _ _ _ c.if-link-eq0.false _ _ _ _ _ _ _ c.first_link-before.ensures.0 step.predicates.0 step.axis step.test c.walk.ensures c.stride.ensures
