@@ -7,33 +7,28 @@ ghost use Rattle.meaning.specs.View.{entry_fits, ascending, viewable, begins};
 ghost use Rattle.meaning.specs.Promises.{FindsPart, ShowsPart};
 ghost use Rattle.meaning.proofs.Lists.{Rising};
 
-use basics::{below, both, entry, wide};
-use meaning::{Answer, Part};
+use basics::entry;
+use meaning::Part;
 use table::{end_at, row_count};
 use table_check::check_table;
 
 // Is entry i the first, or above the entry before it, and below the row count?
+#[tactic(auto, unfolding(meaning::specs::View::entry_fits))]
 fn entry_fits(table: &[u32], list: &[u32], i: usize) -> bool
     ensures { result ≡ entry_fits table.now list.now i }
 {
     let x = entry(list, i);
-    let inside = below(x, row_count(table));
-    if i == 0 {
-        return inside;
-    }
-    both(below(entry(list, i - 1), x), inside)
+    (i == 0 || entry(list, i - 1) < x) && x < row_count(table)
 }
 
 // Is the list strictly ascending with entries below the row count?
 fn is_ascending(table: &[u32], list: &[u32]) -> bool
     ensures { result ≡ ascending table.now list.now }
 {
-    let mut i = 0;
-    while i < list.len() {
+    for i in 0..list.len() {
         if !entry_fits(table, list, i) {
             return false;
         }
-        i += 1;
     }
     true
 }
@@ -42,14 +37,7 @@ fn is_ascending(table: &[u32], list: &[u32]) -> bool
 fn is_viewable(table: &[u32], list: &[u32], v: usize) -> bool
     ensures { result ≡ viewable table.now list.now v }
 {
-    let answer = Answer::from(check_table(table));
-    if answer.number != 0 {
-        return false;
-    }
-    if !below(v, row_count(table)) {
-        return false;
-    }
-    is_ascending(table, list)
+    check_table(table).is_ok() && v < row_count(table) && is_ascending(table, list)
 }
 
 // The lowest index with an entry of v or more, or the length where there is none.
@@ -57,24 +45,14 @@ fn lower_bound(list: &[u32], v: usize) -> usize
     requires { Rising list.now }
     ensures { result ≡ begins list.now v }
 {
-    let mut low = 0;
-    let mut high = list.len();
-    while low < high {
-        let middle = low + (high - low) / 2;
-        if entry(list, middle) < v {
-            low = middle + 1;
-        } else {
-            high = middle;
-        }
-    }
-    low
+    list.partition_point(|x| (*x as usize) < v)
 }
 
 // Where the part begins and how many entries it has: 0 and 0 for an empty one.
 pub fn ends_of(table: &[u32], list: &[u32], node: u32) -> Part
     ensures { FindsPart table.now list.now node result }
 {
-    let v = wide(node);
+    let v = node as usize;
     if !is_viewable(table, list, v) {
         return Part {
             begin: 0,

@@ -6,7 +6,7 @@ use borrow.Author.Rules.{rules}
 use Rattle.view.proofs.ends_of.Goals as goal
 
 pub returns-then-not-is_viewable : goal.returns-then-not-is_viewable
-returns-then-not-is_viewable c = rw (← c.wide-v.ensures.0) (part_refused _ _ _ (sym c.is_viewable.ensures ∙ c.if-not-is_viewable.true))
+returns-then-not-is_viewable c = (part_refused _ _ _ (sym c.is_viewable.ensures ∙ c.if-not-is_viewable.true))
 
 pub lower_bound-begin-requires : goal.lower_bound-begin-requires
 lower_bound-begin-requires c = viewable_rises _ _ _ (sym c.is_viewable.ensures ∙ c.if-not-is_viewable.false)
@@ -18,7 +18,7 @@ pub lower_bound-end-requires : goal.lower_bound-end-requires
 lower_bound-end-requires c = viewable_rises _ _ _ (sym c.is_viewable.ensures ∙ c.if-not-is_viewable.false)
 
 pub returns-then-begin-end : goal.returns-then-begin-end
-returns-then-begin-end c = rw (← c.wide-v.ensures.0) (part_some _ _ _ _ _ _ c.lower_bound-begin.ensures c.end_at.ensures.0 c.lower_bound-end.ensures (sym c.is_viewable.ensures ∙ c.if-not-is_viewable.false) c.if-begin-end.true)
+returns-then-begin-end c = (part_some _ _ _ _ _ _ c.lower_bound-begin.ensures c.end_at.ensures.0 c.lower_bound-end.ensures (sym c.is_viewable.ensures ∙ c.if-not-is_viewable.false) c.if-begin-end.true)
 
 pub returns-else-begin-end : goal.returns-else-begin-end
-returns-else-begin-end c = rw (← c.wide-v.ensures.0) (part_none _ _ _ _ _ _ c.lower_bound-begin.ensures c.end_at.ensures.0 c.lower_bound-end.ensures c.if-begin-end.false)
+returns-else-begin-end c = (part_none _ _ _ _ _ _ c.lower_bound-begin.ensures c.end_at.ensures.0 c.lower_bound-end.ensures c.if-begin-end.false)

@@ -1,14 +1,9 @@
--- `view::is_ascending` meets its contract: the loop's invariant is that each entry below i fits; the measure is what is left of the list.
+-- `view::is_ascending` meets its contract: the loop's invariant is that each entry below i fits.
 -- Assumes nothing.
-use mathlib.Core.Bool.{not}
-use Prim.Native.Nat.{◌-◌}
-use lib.ListN.{length}
+use Rattle.std.proofs.Common.{not}
 use Rattle.meaning.specs.View.{entry_fits}
 use Rattle.meaning.proofs.Checks.{Passed}
 use Rattle.view.proofs.is_ascending.Given as goal
 
 abbrev pub invariant-loop-i : goal.invariant-loop-i
 invariant-loop-i l = Passed (λ j. not (entry_fits l.table l.list j)) l.i
-
-abbrev pub decreases-loop-i : goal.decreases-loop-i
-decreases-loop-i l = length l.list - l.i

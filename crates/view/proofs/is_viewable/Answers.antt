@@ -1,15 +1,23 @@
--- `view::is_viewable` meets its contract: check by check, by what the checks gave.
+-- `view::is_viewable` meets its contract: by what its tests gave.
 -- Assumes nothing.
-use mathlib.Core.Path.{◌∙◌, sym}
-use Rattle.meaning.proofs.Checks.{table_accepted, table_refused}
+use Rattle.std.proofs.Common.{◌∙◌, sym, true≢false}
 use Rattle.meaning.proofs.View.{view_refused, view_outside, view_allowed}
+use Rattle.view.proofs.Accepted.{accepted_is}
 use Rattle.view.proofs.is_viewable.Goals as goal
+use Rattle.view.proofs.is_viewable.Goals.{then-is_ok, else-is_ok}
 
-pub returns-then-answer-ne0 : goal.returns-then-answer-ne0
-returns-then-answer-ne0 c = sym (view_refused _ _ _ (table_refused _ (rw (c.from-answer.ensures, c.check_table.ensures) at c.if-answer-ne0.true)))
+pub returns-then-v-row_count : goal.returns-then-v-row_count
+returns-then-v-row_count c =
+    let a = accepted_is c.args.table.now c.check_table.result c.check_table.ensures in
+    elim c.if-is_ok.branch [
+      | then-is_ok w ↦ c.is_ascending.ensures ∙ sym (view_allowed _ _ _ _ (a ∙ sym w.if-is_ok.ensures.value) w.row_count.ensures (sym w.value-is ∙ c.if-v-row_count.true))
+      | else-is_ok w ↦ absurd (true≢false (sym c.if-v-row_count.true ∙ w.value-is ∙ w.if-is_ok.false))
+    ]
 
-pub returns-then-not-below : goal.returns-then-not-below
-returns-then-not-below c = sym (view_outside _ _ _ _ c.row_count.ensures (sym c.below.ensures ∙ c.if-not-below.true))
-
-pub returns : goal.returns
-returns c = c.is_ascending.ensures ∙ sym (view_allowed _ _ _ _ (table_accepted _ (rw (c.from-answer.ensures, c.check_table.ensures) at c.if-answer-ne0.false)) c.row_count.ensures (sym c.below.ensures ∙ c.if-not-below.false))
+pub returns-else-v-row_count : goal.returns-else-v-row_count
+returns-else-v-row_count c =
+    let a = accepted_is c.args.table.now c.check_table.result c.check_table.ensures in
+    elim c.if-is_ok.branch [
+      | then-is_ok w ↦ c.if-v-row_count.false ∙ sym (view_outside _ _ _ _ w.row_count.ensures (sym w.value-is ∙ c.if-v-row_count.false))
+      | else-is_ok w ↦ c.if-v-row_count.false ∙ sym (view_refused _ _ _ (a ∙ sym w.if-is_ok.ensures.value))
+    ]
