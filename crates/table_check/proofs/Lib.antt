@@ -2,3 +2,4 @@ mod Next
 mod Siblings
 mod Stops
 mod Names
+mod Passes

@@ -22,9 +22,9 @@ use Rattle.table_check.specs.Next.{good_numbers, well_placed, Stands, Next, Behi
 
 module _ (t : List ℕ) where
   -- the root's first child must stand at row 1
-  pub next_start : (next : List ℕ) → 0 < rows t → good_root t ≡ true → get_or next 0 0 ≡ 1 → Next t 1 next
+  pub next_start : (last : List ℕ) → 0 < rows t → good_root t ≡ true → get_or last 0 0 ≡ 0 → Next t 1 last
   unfolding Next good_root
-  next_start next some-row root e p l =
+  next_start last some-row root e p l =
       let g : T (good_root t) = truly root in
       let f : T (eqb (size t 0) (rows t - 1)) = search (and_l, and_r) in
       let z : p ≡ 0 = omega arith in
@@ -147,34 +147,34 @@ module _ (t : List ℕ) where
       ];
     }
 
-    module _ (next : List ℕ) (known : Next t i next) (sound : good_row t i ≡ true) where
-      -- what a sound row's parent says, and that the row stands where that one's next child must
+    module _ (last : List ℕ) (known : Next t i last) (sound : good_row t i ≡ true) where
+      -- what a sound row's parent says, and that the row stands where that one's last child must
       pub sound_child : ChildRow t i
       sound_child = good_child_lem t i (truly sound)
 
-      pub parent_stands : Stands t i (parent_of t i) (get_or next (parent_of t i) 0)
+      pub parent_stands : Stands t i (parent_of t i) (get_or last (parent_of t i) 0 + 1)
       unfolding Next
       parent_stands = known (parent_of t i) sound_child.below
 
-      stands_here : get_or next (parent_of t i) 0 ≡ i
+      stands_here : get_or last (parent_of t i) 0 + 1 ≡ i
       stands_here =
-          let m : ℕ = get_or next (parent_of t i) 0 in
+          let m : ℕ = get_or last (parent_of t i) 0 + 1 in
           let h : T (good_parent t i) = good_parent_lem t i (truly sound) in
           eqb→eq m i (and_l (eqb m i) (leb (end t i) (end t (parent_of t i))) (rw (placed m sound_child.below parent_stands) at h))
 
       -- a sound row passes it on
-      pub next_more : i < length next → Next t (i + 1) (set (set next i (i + 1)) (parent_of t i) (end t i + 1))
+      pub next_more : i < length last → Next t (i + 1) (set (set last i i) (parent_of t i) (end t i))
       unfolding Next
       next_more a p l =
           let c : ChildRow t i = sound_child in
           let q : ℕ = parent_of t i in
-          let own : List ℕ = set next i (i + 1) in
+          let own : List ℕ = set last i i in
           let b : q < length own = simp length-set (omega (arith, c.below)) in
           elim (eq_or_ne p q) [
-            | inl z ↦ rw (z, get_or-set_same own q (end t i + 1) 0 b) (stands_parent c (get_or next q 0) parent_stands stands_here)
+            | inl z ↦ rw (z, get_or-set_same own q (end t i) 0 b) (stands_parent c (get_or last q 0 + 1) parent_stands stands_here)
             | inr z ↦ elim (eq_or_ne p i) [
-              | inl y ↦ rw (y, get_or-set_other own q i (end t i + 1) 0 (λ y. omega (arith, c.below)), get_or-set_same next i (i + 1) 0 a) (stands_own c (get_or next q 0) parent_stands)
-              | inr y ↦ rw (get_or-set_other own q p (end t i + 1) 0 z, get_or-set_other next i p (i + 1) 0 y) (stands_other c p (get_or next p 0) (omega (arith, y)) z (known p (omega (arith, y))))
+              | inl y ↦ rw (y, get_or-set_other own q i (end t i) 0 (λ y. omega (arith, c.below)), get_or-set_same last i i 0 a) (stands_own c (get_or last q 0 + 1) parent_stands)
+              | inr y ↦ rw (get_or-set_other own q p (end t i) 0 z, get_or-set_other last i p i 0 y) (stands_other c p (get_or last p 0 + 1) (omega (arith, y)) z (known p (omega (arith, y))))
             ]
           ]
 

@@ -12,7 +12,7 @@ use native.Mathlib.Nat.{eq-or-lt_of_le}
 use native.Mathlib.Numerals.{add-one}
 use borrow.Author.Tests.{lt-ltb, le-ltb, eq-eqb}
 use Rattle.meaning.specs.Lists.{up_to, some}
-use Rattle.meaning.specs.Table.{kind, parent_of, rows, end, is_element, is_text, is_attribute, has_element, good_parent, element_of_root, later_element, sibling_before, previous_sibling, text_after_text}
+use Rattle.meaning.specs.Table.{kind, name, parent_of, size, rows, end, good_root, is_element, is_text, is_attribute, has_element, good_parent, element_of_root, later_element, sibling_before, previous_sibling, text_after_text}
 use Rattle.meaning.proofs.Bools.{and_l, and_r, and_i, truly, untrue, same, is_true, is_false, not_e, lt_or_ge}
 use Rattle.meaning.proofs.Lists.{some_to, some_from, has_up_to_to, has_up_to_from, none_below, lowest_some, lowest_below, lowest_at}
 use Rattle.meaning.proofs.Tables.{Sound, row_holds, ChildRow, good_child_lem, parent_child}
@@ -23,6 +23,11 @@ use Rattle.table_check.specs.Next.{first_element}
 pub has_first : (t : List ℕ) → has_element t ≡ ltb (first_element t) (rows t)
 unfolding has_element
 has_first t = lowest_some (is_element t) (rows t)
+
+-- a good root is the tests of its row, and that
+pub root_tests : (t : List ℕ) → good_root t ≡ (eqb (kind t 0) 0 && eqb (name t 0) 0 && eqb (parent_of t 0) 0 && eqb (size t 0) (rows t - 1) && ltb (first_element t) (rows t))
+unfolding good_root
+root_tests t = rw (has_first t)
 
 module _ (t : List ℕ) (i : ℕ) (sound : Sound t i) where
   -- an element child of the root stands after another exactly if it is not the table's first element

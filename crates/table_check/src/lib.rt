@@ -2,268 +2,268 @@
 // and one pass over the rows, begun again at an attribute whose name is none of the few; sums in 64 bits.
 #![tactic(auto)]
 
-ghost use Rattle.std.specs.Prelude.{◌≡◌, true, false, not, ◌+◌, ◌<◌, ◌≤◌, length};
-ghost use Rattle.meaning.specs.Lists.{lowest};
-ghost use Rattle.meaning.specs.Table.{rows, most_rows, length_allowed, good_root, is_attribute, good_name, good_parent, text_of_root, later_element, text_after_text, among_attributes, good_row, broken};
+ghost use Rattle.std.specs.Prelude.{◌≡◌, true, false, not, Some, ◌+◌, ◌<◌, ◌≤◌};
+ghost use Rattle.meaning.specs.Table.{rows, most_rows, kind, name, size, length_allowed, good_name, is_element, text_of_root, later_element, text_after_text, among_attributes, is_attribute, broken};
 ghost use Rattle.meaning.specs.Answers.{told};
 ghost use Rattle.meaning.specs.Promises.{ChecksTable};
-ghost use Rattle.table_check.specs.Next.{first_element, good_numbers, well_placed, Behind, Next, Looked};
-ghost use Rattle.table_check.specs.Names.{Seen, unlisted, stopped};
+ghost use Rattle.table_check.specs.Next.{first_element, good_numbers, well_placed, Lowest, RootIs};
+ghost use Rattle.table_check.specs.Names.{unlisted, stopped};
+ghost use Rattle.table_check.specs.Passes.{Passing};
 
-use basics::{at_most, below, both, either, same};
 use meaning::{MOST_ROWS, Refusal};
-use table::{end_at, is_attribute, kind_number_at, name_at, parent_at, row_count, size_at};
+use table::{Kind, end_at, is_attribute, kind_at, name_at, parent_at, row_count, size_at};
 
 // The largest name.
 const MOST_NAME: usize = 65535;
+
+// Room for each name up to the largest.
+const ALL_NAMES: usize = MOST_NAME + 1;
 
 // Names below this are few enough to be looked up in a short array.
 const FEW_NAMES: usize = 4096;
 
 // 1 to 8,192 rows, and a multiple of 4.
+#[tactic(auto, unfolding(meaning::specs::Table::length_within))]
 fn length_allowed(table: &[u32]) -> bool
     ensures { result ≡ length_allowed table.now }
 {
     let n = row_count(table);
-    let some_rows = both(same(table.len() % 4, 0), at_most(1, n));
-    both(some_rows, at_most(n, MOST_ROWS))
+    table.len() % 4 == 0 && 1 <= n && n <= MOST_ROWS
 }
 
-// The lowest row of kind 1, or the row count where there is none.
-fn first_element(table: &[u32]) -> usize
-    ensures { result ≡ first_element table.now }
+// The lowest row that is an element.
+#[tactic(auto, using(table::proofs::Numbers::same_kind))]
+fn first_element(table: &[u32]) -> Option<usize>
+    ensures { Lowest (is_element table.now) (rows table.now) result }
 {
-    let n = row_count(table);
-    let mut i = 0;
-    while i < n {
-        if kind_number_at(table, i) == 1 {
-            return i;
+    for i in 0..row_count(table) {
+        if kind_at(table, i) == Kind::Element {
+            return Some(i);
         }
-        i += 1;
     }
-    n
+    None
 }
 
-// Row 0: kind 0, name 0, parent 0, size rows minus 1; and some row is an element.
-fn good_root(table: &[u32], first: usize) -> bool
-    requires { (0 < rows table.now) × (first ≡ first_element table.now) }
-    ensures { result ≡ good_root table.now }
+// Is row 0 as a root is, but for its elements: kind 0, name 0, parent 0, size rows minus 1? Then the first element, if there is one.
+#[tactic(auto, using(table::proofs::Numbers::same_kind))]
+fn good_root(table: &[u32]) -> Option<usize>
+    requires { 0 < rows table.now }
+    ensures { RootIs table.now result }
 {
-    let plain = both(
-        same(kind_number_at(table, 0), 0),
-        same(name_at(table, 0), 0),
-    );
-    let placed = both(plain, same(parent_at(table, 0), 0));
-    let n = row_count(table);
-    let sized = both(placed, same(size_at(table, 0), n - 1));
-    both(sized, below(first, n))
+    let first = first_element(table)?;
+    let plain = kind_at(table, 0) == Kind::Root && name_at(table, 0) == 0;
+    let placed = parent_at(table, 0) == 0 && size_at(table, 0) == row_count(table) - 1;
+    if plain && placed { Some(first) } else { None }
 }
 
-// A name is 1 to 65,535 for kinds 1, 4 and 5, else 0.
-fn good_name(kind: usize, name: usize) -> bool
-    ensures { result ≡ good_name kind name }
+// Is row i's name as its kind has it: from 1 to 65,535 for elements, instructions and attributes, else 0?
+#[tactic(auto, using(table::proofs::Numbers::same_kind), unfolding(meaning::specs::Table::good_name))]
+fn good_name(table: &[u32], i: usize) -> bool
+    requires { i < rows table.now }
+    ensures { result ≡ good_name (kind table.now i) (name table.now i) }
 {
-    let named = either(either(same(kind, 1), same(kind, 4)), same(kind, 5));
-    if named {
-        both(at_most(1, name), at_most(name, MOST_NAME))
+    let kind = kind_at(table, i);
+    let name = name_at(table, i);
+    if kind == Kind::Element || kind == Kind::Instruction || kind == Kind::Attribute {
+        1 <= name && name <= MOST_NAME
     } else {
-        same(name, 0)
+        name == 0
     }
 }
 
-// A row's own numbers: a kind from 1 to 5, a name and a size as it has them; size is 0 for kinds 2 to 5.
-fn good_numbers(kind: usize, name: usize, size: usize) -> bool
-    ensures { result ≡ good_numbers kind name size }
+// Are row i's own numbers sound: a kind from 1 to 5, a name as it has it, and a size for elements alone?
+#[tactic(auto, using(table::proofs::Numbers::same_kind, table::proofs::Numbers::unknown_kind), unfolding(meaning::specs::Table::good_size))]
+fn good_numbers(table: &[u32], i: usize) -> bool
+    requires { i < rows table.now }
+    ensures { result ≡ good_numbers (kind table.now i) (name table.now i) (size table.now i) }
 {
-    let known = both(at_most(1, kind), at_most(kind, 5));
-    let named = both(known, good_name(kind, name));
-    both(named, either(same(kind, 1), same(size, 0)))
-}
-
-// Are row i's own numbers and its parent as the rules have them? next has for each lower row where its next child must stand: a row is
-// well placed exactly if it stands there and ends inside its parent.
-fn well_placed(table: &[u32], i: usize, next: &[u16]) -> bool
-    requires { Looked table.now i next.now }
-    ensures { result ≡ well_placed table.now i }
-{
-    let parent = parent_at(table, i);
-    if i <= parent {
-        return false;
-    }
-    let sound = good_numbers(
-        kind_number_at(table, i),
-        name_at(table, i),
-        size_at(table, i),
-    );
-    let inside = at_most(end_at(table, i), end_at(table, parent));
-    let stands = same(next[parent] as usize, i);
-    both(sound, both(stands, inside))
+    let kind = kind_at(table, i);
+    let known = kind != Kind::Root && kind != Kind::Unknown;
+    known && good_name(table, i) && (kind == Kind::Element || size_at(table, i) == 0)
 }
 
 // Is row i a text child of the root?
+#[tactic(auto, using(table::proofs::Numbers::same_kind), unfolding(meaning::specs::Table::text_of_root))]
 fn text_of_root(table: &[u32], i: usize) -> bool
     requires { i < rows table.now }
     ensures { result ≡ text_of_root table.now i }
 {
-    both(
-        same(kind_number_at(table, i), 2),
-        same(parent_at(table, i), 0),
-    )
-}
-
-// Is row i an element child of the root after another? The table's first element is one, so every later one is.
-fn later_element(table: &[u32], i: usize, first: usize) -> bool
-    requires { Behind table.now i × (first ≡ first_element table.now) }
-    ensures { result ≡ later_element table.now i }
-{
-    let of_root = both(
-        same(kind_number_at(table, i), 1),
-        same(parent_at(table, i), 0),
-    );
-    both(of_root, below(first, i))
-}
-
-// Is row i a text whose previous sibling is text? A text has nothing inside it, so that sibling is the row before.
-fn text_after_text(table: &[u32], i: usize) -> bool
-    requires { Behind table.now i × (good_parent table.now i ≡ true) }
-    ensures { result ≡ text_after_text table.now i }
-{
-    if kind_number_at(table, i) != 2 {
-        return false;
-    }
-    both(
-        same(kind_number_at(table, i - 1), 2),
-        same(parent_at(table, i - 1), parent_at(table, i)),
-    )
+    kind_at(table, i) == Kind::Text && parent_at(table, i) == 0
 }
 
 // Does row i stand straight after its element, or after another attribute of it?
+#[tactic(auto, using(table::proofs::Numbers::same_kind), unfolding(meaning::specs::Table::among_attributes))]
 fn among_attributes(table: &[u32], i: usize) -> bool
     requires { (0 < i) × (i < rows table.now) }
     ensures { result ≡ among_attributes table.now i }
 {
-    let kind = kind_number_at(table, i - 1);
+    let kind = kind_at(table, i - 1);
     let parent = parent_at(table, i);
-    let first = both(same(kind, 1), same(parent, i - 1));
-    let next = both(same(kind, 5), same(parent, parent_at(table, i - 1)));
-    either(first, next)
+    let first = kind == Kind::Element && parent == i - 1;
+    let next = kind == Kind::Attribute && parent == parent_at(table, i - 1);
+    first || next
 }
 
 // Is row i an attribute whose name is not below this number?
+#[tactic(auto, unfolding(crate::specs::Names::unlisted))]
 fn is_unlisted(table: &[u32], names: usize, i: usize) -> bool
     requires { i < rows table.now }
     ensures { result ≡ unlisted table.now names i }
 {
-    both(is_attribute(table, i), at_most(names, name_at(table, i)))
+    is_attribute(table, i) && names <= name_at(table, i)
 }
 
-// May an attribute, row i, be passed? seen has for each name the last element with an attribute of that name: no later attribute
-// has an earlier element, so the row's own element stands there exactly if it has the name already.
-fn may_pass_attribute(table: &[u32], i: usize, seen: &[u16]) -> bool
-    requires { Behind table.now i × (well_placed table.now i ≡ true) × (is_attribute table.now i ≡ true) × Seen table.now i seen.now }
-    ensures { result ≡ not (stopped table.now (length seen.now) i) }
-{
-    if is_unlisted(table, seen.len(), i) {
-        return false;
-    }
-    if !among_attributes(table, i) {
-        return false;
-    }
-    let last = seen[name_at(table, i)] as usize;
-    !same(last, parent_at(table, i))
+// A pass over the rows behind a sound root, with room for attributes' names below NAMES.
+#[derive(Drop)]
+struct Pass<'a, const NAMES: usize> {
+    table: &'a [u32],
+    // The table's first element.
+    first: usize,
+    // The row that is looked at next.
+    row: usize,
+    // For each row before it the last row of its subtree that was passed: its next child must stand right behind that.
+    last: [u16; MOST_ROWS],
+    // For each name the last element before it with an attribute of that name.
+    seen: [u16; NAMES],
+    ghost stands: { (0 < row) × (row ≤ rows table.now) × (rows table.now ≤ most_rows) × (first ≡ first_element table.now) },
+    ghost knows: { ∥ Passing table.now NAMES row last seen ∥₁ },
 }
 
-// May row i, which is not the root, be passed: is it as the rules have it, with room for its name? Few rows are children of the
-// root, and few are texts: the others are done after three tests.
-fn may_pass(table: &[u32], i: usize, first: usize, next: &[u16], seen: &[u16]) -> bool
-    requires { Looked table.now i next.now × Seen table.now i seen.now × (first ≡ first_element table.now) }
-    ensures { result ≡ not (stopped table.now (length seen.now) i) }
-{
-    if !well_placed(table, i, next) {
-        return false;
+impl<'a, const NAMES: usize> Pass<'a, NAMES> {
+    // Are the row's own numbers and its parent as the rules have them? It stands where its parent's next child must, and ends inside it.
+    fn is_well_placed(&self) -> bool
+        requires { self.now.row < rows self.now.table.now }
+        ensures { result ≡ well_placed self.now.table.now self.now.row }
+    {
+        let parent = parent_at(self.table, self.row);
+        if self.row <= parent {
+            return false;
+        }
+        let inside = end_at(self.table, self.row) <= end_at(self.table, parent);
+        let stands = self.last[parent] as usize + 1 == self.row;
+        good_numbers(self.table, self.row) && inside && stands
     }
-    if is_attribute(table, i) {
-        return may_pass_attribute(table, i, seen);
+
+    // Is the row an element child of the root after another? The table's first element is one, so every later one is.
+    #[tactic(auto, using(table::proofs::Numbers::same_kind))]
+    fn is_later_element(&self) -> bool
+        requires { self.now.row < rows self.now.table.now }
+        ensures { result ≡ later_element self.now.table.now self.now.row }
+    {
+        let element = kind_at(self.table, self.row) == Kind::Element;
+        element && parent_at(self.table, self.row) == 0 && self.first < self.row
     }
-    if parent_at(table, i) == 0 {
-        return both(!text_of_root(table, i), !later_element(table, i, first));
+
+    // Is the row a text whose previous sibling is text? A text has nothing inside it, so that sibling is the row before.
+    #[tactic(auto, using(table::proofs::Numbers::same_kind))]
+    fn is_text_after_text(&self) -> bool
+        requires { (self.now.row < rows self.now.table.now) × (well_placed self.now.table.now self.now.row ≡ true) }
+        ensures { result ≡ text_after_text self.now.table.now self.now.row }
+    {
+        let before = self.row - 1;
+        kind_at(self.table, self.row) == Kind::Text
+            && kind_at(self.table, before) == Kind::Text
+            && parent_at(self.table, before) == parent_at(self.table, self.row)
     }
-    !text_after_text(table, i)
+
+    // May the row, an attribute, be passed? No later attribute has an earlier element, so the row's own element stands in seen exactly if
+    // it has the name already.
+    fn may_pass_attribute(&self) -> bool
+        requires { (self.now.row < rows self.now.table.now) × (well_placed self.now.table.now self.now.row ≡ true) × (is_attribute self.now.table.now self.now.row ≡ true) }
+        ensures { result ≡ not (stopped self.now.table.now NAMES self.now.row) }
+    {
+        if is_unlisted(self.table, NAMES, self.row) {
+            return false;
+        }
+        if !among_attributes(self.table, self.row) {
+            return false;
+        }
+        let last = self.seen[name_at(self.table, self.row)] as usize;
+        last != parent_at(self.table, self.row)
+    }
+
+    // May the row be passed: is it as the rules have it, with room for its name? Few rows are children of the root, and few are texts: the
+    // others are done after three tests.
+    fn may_pass(&self) -> bool
+        requires { self.now.row < rows self.now.table.now }
+        ensures { result ≡ not (stopped self.now.table.now NAMES self.now.row) }
+    {
+        if !self.is_well_placed() {
+            return false;
+        }
+        if is_attribute(self.table, self.row) {
+            return self.may_pass_attribute();
+        }
+        if parent_at(self.table, self.row) == 0 {
+            return !text_of_root(self.table, self.row) && !self.is_later_element();
+        }
+        !self.is_text_after_text()
+    }
+
+    // Passes the row, which is sound: its own first child must stand right behind it, and its parent's next one behind its subtree; if it is
+    // an attribute, its element is the last one with its name.
+    fn pass(&mut self)
+        requires { (self.old.row < rows self.old.table.now) × (stopped self.old.table.now NAMES self.old.row ≡ false) }
+        ensures { (self.new.table ≡ self.old.table) × (self.new.row ≡ self.old.row + 1) }
+    {
+        let row = self.row;
+        let parent = parent_at(self.table, row);
+        self.last[row] = row as u16;
+        self.last[parent] = end_at(self.table, row) as u16;
+        self.row += 1;
+        if is_attribute(self.table, row) {
+            self.seen[name_at(self.table, row)] = parent as u16;
+        }
+    }
 }
 
-// Row i is sound: its own first child must stand right behind it, and its parent's next one behind its subtree.
-fn pass_row(table: &[u32], i: usize, next: &mut [u16])
-    requires { Looked table.now i next.old × (good_row table.now i ≡ true) }
-    ensures { Next table.now (i + 1) next.new }
-{
-    let parent = parent_at(table, i);
-    next[i] = (i + 1) as u16;
-    next[parent] = (end_at(table, i) + 1) as u16;
-}
-
-// Row i is sound: if it is an attribute, its element is the last one with its name.
-fn pass_name(table: &[u32], i: usize, seen: &mut [u16])
-    requires { Behind table.now i × (rows table.now ≤ most_rows) × (stopped table.now (length seen.old) i ≡ false) × Seen table.now i seen.old }
-    ensures { Seen table.now (i + 1) seen.new }
-{
-    if is_attribute(table, i) {
-        seen[name_at(table, i)] = parent_at(table, i) as u16;
-    }
-}
-
-// The lowest row behind a sound root that is broken or whose name has no room, or the row count where there is none. The root's first
-// child must stand at row 1.
-fn lowest_behind_root(table: &[u32], first: usize, seen: &mut [u16]) -> usize
-    requires { (0 < rows table.now) × (rows table.now ≤ most_rows) × (good_root table.now ≡ true) × (first ≡ first_element table.now) × Seen table.now 1 seen.old }
-    ensures { result ≡ lowest (stopped table.now (length seen.old)) (rows table.now) }
+// The lowest row behind a sound root that is broken or whose name has no room. The root's first child must stand at row 1.
+fn lowest_stop<const NAMES: usize>(table: &[u32], first: usize) -> Option<usize>
+    requires { (0 < rows table.now) × (rows table.now ≤ most_rows) × RootIs table.now (Some first) × (NAMES ≤ 65536) }
+    ensures { Lowest (stopped table.now NAMES) (rows table.now) result }
 {
     let n = row_count(table);
-    let mut next = [1u16; MOST_ROWS];
-    let mut i = 1;
-    while i < n {
-        if !may_pass(table, i, first, &next, seen) {
-            return i;
+    let mut pass: Pass<NAMES> = Pass {
+        table,
+        first,
+        row: 1,
+        last: [0; MOST_ROWS],
+        seen: [0; NAMES],
+    };
+    while pass.row < n {
+        if !pass.may_pass() {
+            return Some(pass.row);
         }
-        pass_row(table, i, &mut next);
-        pass_name(table, i, seen);
-        i += 1;
+        pass.pass();
     }
-    n
+    None
 }
 
-// The lowest broken row, or the row count where there is none. Clearing room for all names takes longer than the pass over a small table:
-// only a table with a name that is none of the few needs it, and there the pass begins again.
-fn lowest_broken_row(table: &[u32]) -> usize
+// The lowest broken row. Clearing room for all names takes longer than the pass over a small table: only a table with a name that is none of
+// the few needs it, and there the pass begins again.
+fn lowest_broken_row(table: &[u32]) -> Option<usize>
     requires { (0 < rows table.now) × (rows table.now ≤ most_rows) }
-    ensures { result ≡ lowest (broken table.now) (rows table.now) }
+    ensures { Lowest (broken table.now) (rows table.now) result }
 {
-    let first = first_element(table);
-    if !good_root(table, first) {
-        return 0;
+    let Some(first) = good_root(table) else {
+        return Some(0);
+    };
+    let row = lowest_stop::<FEW_NAMES>(table, first)?;
+    if is_unlisted(table, FEW_NAMES, row) {
+        return lowest_stop::<ALL_NAMES>(table, first);
     }
-    let mut few = [0u16; FEW_NAMES];
-    let at = lowest_behind_root(table, first, &mut few);
-    if row_count(table) <= at {
-        return at;
-    }
-    if !is_unlisted(table, FEW_NAMES, at) {
-        return at;
-    }
-    let mut all = [0u16; MOST_NAME + 1];
-    lowest_behind_root(table, first, &mut all)
+    Some(row)
 }
 
-// The row count of an accepted table; else a length that is not allowed, or the lowest broken row.
+// 1 for a length that is not allowed, 2 with the lowest broken row, 0 with the row count.
 pub fn check_table(table: &[u32]) -> Result<u32, Refusal>
     ensures { ChecksTable table.now (told result) }
 {
     if !length_allowed(table) {
         return Err(Refusal::TableLength);
     }
-    let n = row_count(table);
-    let at = lowest_broken_row(table);
-    if at < n {
-        return Err(Refusal::BrokenRow(at as u32));
+    match lowest_broken_row(table) {
+        Some(row) => Err(Refusal::BrokenRow(row as u32)),
+        None => Ok(row_count(table) as u32),
     }
-    Ok(n as u32)
 }
