@@ -13,6 +13,7 @@ use meaning::{Axis, Op, Test};
 // The inverse axis of each axis: 1 and 2, 3 and 4 and so on are inverse to each other; 11 has none, and 0 fills its place.
 const INVERSES: [usize; 12] = [0, 2, 1, 4, 3, 6, 5, 8, 7, 10, 9, 0];
 
+// How many rows the path has.
 pub fn row_count(path: &[u32]) -> usize
     ensures { result ≡ rows_of path.now }
 {
@@ -81,7 +82,7 @@ fn link_in(path: &[u32], row: usize, f: usize, is_link: bool) -> usize
     if is_link && l <= row { l } else { 0 }
 }
 
-// The link that a row's field a, or b, holds; 0 where it links none.
+// The link that a row's field a holds; 0 where it links none.
 #[tactic(auto, unfolding(meaning::specs::Rows::first_link))]
 pub fn first_link(path: &[u32], row: usize) -> usize
     ensures { (result ≡ first_link path.now row) × (result ≤ row) }
@@ -89,6 +90,7 @@ pub fn first_link(path: &[u32], row: usize) -> usize
     link_in(path, row, 1, has_first(op_at(path, row)))
 }
 
+// The link that its field b holds.
 #[tactic(auto, unfolding(meaning::specs::Rows::second_link))]
 pub fn second_link(path: &[u32], row: usize) -> usize
     ensures { (result ≡ second_link path.now row) × (result ≤ row) }
@@ -96,7 +98,7 @@ pub fn second_link(path: &[u32], row: usize) -> usize
     link_in(path, row, 2, has_second(op_at(path, row)))
 }
 
-// A literal's index, or a step's axis; 0 for any other op.
+// A literal's index, or the number of a step's axis; 0 for any other op.
 #[tactic(auto, unfolding(meaning::specs::Tree::index_or_axis, meaning::specs::Rows::is_literal, meaning::specs::Rows::is_step, meaning::specs::Rows::code))]
 pub fn index_or_axis(path: &[u32], row: usize) -> usize
     ensures { (result ≡ index_or_axis path.now row) × (result < 4294967296) }
@@ -108,7 +110,7 @@ pub fn index_or_axis(path: &[u32], row: usize) -> usize
     }
 }
 
-// A step's test; 0 for any other op.
+// The number of a step's test; 0 for any other op.
 #[tactic(auto, unfolding(meaning::specs::Tree::test_at, meaning::specs::Rows::is_step, meaning::specs::Rows::code))]
 pub fn test_at(path: &[u32], row: usize) -> usize
     ensures { (result ≡ test_at path.now row) × (result < 4294967296) }
@@ -119,20 +121,22 @@ pub fn test_at(path: &[u32], row: usize) -> usize
     }
 }
 
-// A step's axis and its test; self and node() for any other op but a literal, whose index is read as an axis.
+// A step's axis; self for any other op but a literal, whose index is read as an axis.
 pub fn axis_at(path: &[u32], row: usize) -> Axis
     ensures { result ≡ axis_of (index_or_axis path.now row) }
 {
     Axis::from(index_or_axis(path, row))
 }
 
+// A step's test; node() for any other op.
 pub fn node_test_at(path: &[u32], row: usize) -> Test
     ensures { result ≡ test_of (test_at path.now row) }
 {
     Test::from(test_at(path, row))
 }
 
-// The number of the inverse axis.
+// The number of the inverse axis. It takes and gives numbers, since turned rows hold them: an `Axis` would be made of one only to be
+// written as another.
 #[tactic(auto, unfolding(meaning::specs::Turning::inverse_of))]
 pub fn inverse_axis(axis: usize) -> usize
     ensures { (result ≡ inverse_of axis) × (result ≤ 10) }

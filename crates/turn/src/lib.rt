@@ -2,16 +2,13 @@
 // Rows are written from the inside out, in postorder: a step behind the rows that stand already links the last of them.
 #![tactic(auto)]
 
-ghost use Rattle.std.specs.Prelude.{◌≡◌, cond, [], ◌∷◌, ◌++◌, ◌+◌, ◌*◌, ◌<◌, ◌≤◌, eqb, length, drop};
-ghost use Rattle.std.proofs.lemmas.List.Edits.{sets};
+ghost use Rattle.std.specs.Prelude.{◌≡◌, cond, ◌++◌, ◌<◌, ◌≤◌, eqb, length, drop};
 ghost use Rattle.meaning.specs.Axis.{last_axis};
-ghost use Rattle.meaning.specs.Rows.{op_at, code};
-ghost use Rattle.meaning.specs.Tree.{tree, index_or_axis, test_at};
-ghost use Rattle.meaning.specs.Turning.{steps, first_step, is_counting, is_of_attributes, predicates, test, weight, written};
-ghost use Rattle.meaning.specs.Turning as turn_specs;
+ghost use Rattle.meaning.specs.Tree.{tree, index_or_axis};
+ghost use Rattle.meaning.specs.Turning.{steps, first_step, is_counting, is_of_attributes, predicates, test};
 ghost use Rattle.meaning.specs.Answers.{turned_rows, told};
 ghost use Rattle.meaning.specs.Promises.{TurnsPath};
-ghost use Rattle.turn.specs.Parts.{First, Room, Turnable, step_rows, chain};
+ghost use Rattle.turn.specs.Parts.{First, Turnable};
 
 use counting::counting;
 use meaning::{Axis, Op, Refusal};
@@ -38,7 +35,7 @@ fn is_of_attributes(path: &[u32], row: usize) -> bool
     matches!(axis_at(path, row), Axis::Attribute)
 }
 
-// The steps of a chain, from its first to its last.
+// What is told of the steps of a chain, in one pass from its first.
 fn steps_of(path: &[u32], last: usize) -> Steps
     ensures count { (result.count ≡ steps (tree path.now last)) × (result.count ≤ last) }
     ensures counting { First result.counting (first_step is_counting (tree path.now last)) last }
@@ -69,7 +66,7 @@ fn link_to(from: usize, end: usize) -> usize
     if from == 0 { 0 } else { end }
 }
 
-// The predicates and the test of a chain's last step; before the first step stands node().
+// The predicates of a chain's last step, by their link; before the first step there are none.
 #[tactic(auto, using(meaning::proofs::Trees::tree_row, meaning::proofs::Written::no_predicates), unfolding(meaning::specs::Turning::predicates))]
 fn predicates_of(path: &[u32], last: usize) -> usize
     ensures { tree path.now result ≡ predicates (tree path.now last) }
@@ -80,6 +77,7 @@ fn predicates_of(path: &[u32], last: usize) -> usize
     }
 }
 
+// The test of a chain's last step; before the first step stands node().
 #[tactic(auto, using(meaning::proofs::Trees::tree_row, meaning::proofs::Written::no_test), unfolding(meaning::specs::Turning::test))]
 fn test_of(path: &[u32], last: usize) -> usize
     ensures { (result ≡ test (tree path.now last)) × (result < 4294967296) }
