@@ -2,15 +2,14 @@
 -- Assumes nothing.
 use Prim.Native.Nat.{ℕ, ◌+◌, ◌-◌, ◌*◌, ◌<◌, ◌≤◌}
 use mathlib.Core.Path.{◌≡◌, refl, sym, ap, ◌∙◌}
-use mathlib.Core.Bool.{Bool, true, false, ◌||◌}
+use mathlib.Core.Bool.{false}
 use mathlib.Core.List.{List, [], ◌∷◌, ◌++◌}
-use lib.Dec.{ltb, eqb}
 use lib.ListN.{length, drop, length-append}
 use lib.Seq.{sets}
 use lib.Ieee.{Float}
 use native.Mathlib.Omega.{arith}
-use borrow.Author.Tests.{ltb-false, lt-ltb, le-ltb, eq-eqb, ne_eqb}
-use Rattle.meaning.specs.Rows.{op_of, op_at, field, code, is_literal, fields_of, is_link, first_link, second_link, rows_of, most_path_rows}
+use borrow.Author.Tests.{lt-ltb, le-ltb, ne_eqb}
+use Rattle.meaning.specs.Rows.{op_of, op_at, code, is_literal, fields_of, is_link, first_link, second_link, rows_of, most_path_rows}
 use Rattle.meaning.specs.declared.Op.{Op}
 use Rattle.meaning.specs.declared.Op.TheVariants.{Absolute, Relative}
 use Rattle.meaning.specs.declared.Refusal.{Refusal}
@@ -20,9 +19,8 @@ use Rattle.meaning.specs.Turning.{first_step, is_counting, is_of_attributes, tur
 use Rattle.meaning.specs.Answers.{answer, refused, path_tree, path_answer, output, counting_step, attribute_step, absolute_path, turning, turned_rows, turned_output}
 use Rattle.meaning.specs.Promises.{TurnsPath}
 use Rattle.meaning.specs.declared.Answer.{Answer}
-use Rattle.meaning.proofs.Bools.{or_none_l, or_none_r}
 use Rattle.meaning.proofs.Ops.{op_code}
-use Rattle.meaning.proofs.Trees.{first_le, tree_zero, tree_row}
+use Rattle.meaning.proofs.Trees.{tree_zero, tree_row}
 use Rattle.meaning.proofs.Exactly.{AcceptedPath}
 use Rattle.meaning.proofs.Checks.{path_accepted, path_passes, path_stops, most_rows_lem}
 use Rattle.meaning.proofs.Outcome.{refusal_number}

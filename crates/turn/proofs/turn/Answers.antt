@@ -1,6 +1,6 @@
 -- `turn::turn` meets its contract: each check by what was read, in the order of the definition; a refusal has stored nothing.
 -- Assumes nothing.
-use Rattle.std.proofs.Common.{ℕ, ◌+◌, ◌≡◌, false, sym, refl, rules, arith}
+use Rattle.std.proofs.Common.{◌+◌, ◌≡◌, false, sym, refl, rules, arith}
 use mathlib.Core.Bool.{true≢false}
 use denote.Enum.Bare.{sameb, same_true}
 use Rattle.meaning.specs.contracts.Op.{the_type}

@@ -1,5 +1,4 @@
 -- `values::nonzero` meets its contract: the literal zero is the definition's. Assumes nothing.
-use Rattle.std.proofs.Common.{rules}
 use lib.Ieee
 use Rattle.meaning.specs.Meaning.{nonzero, float}
 use Rattle.values.proofs.nonzero.Goals as goal

@@ -1,5 +1,5 @@
 -- `Pen::copy_row` meets its contract: the five numbers are those of the row, by whether its op is a literal. Assumes nothing.
-use Rattle.std.proofs.Common.{ℕ, ◌*◌, List, [], ◌∷◌, ◌≡◌, ap, refl, sym, ◌∙◌}
+use Rattle.std.proofs.Common.{ℕ, ◌*◌, [], ◌∷◌, ◌≡◌, ap, refl, sym, ◌∙◌}
 use borrow.Author.Tests.{ne_eqb}
 use Rattle.std.proofs.lemmas.List.Edits.{sets}
 use Rattle.meaning.specs.declared.Op.{Op}
