@@ -82,7 +82,8 @@ fn link_in(path: &[u32], row: usize, f: usize, is_link: bool) -> usize
     if is_link && l <= row { l } else { 0 }
 }
 
-// The link that a row's field a holds; 0 where it links none.
+// The link that a row's field a holds; 0 where it links none. Links stay the document's numbers, no Option: the definitions read 0 as the
+// empty tree, and a link is passed on as it is.
 #[tactic(auto, unfolding(meaning::specs::Rows::first_link))]
 pub fn first_link(path: &[u32], row: usize) -> usize
     ensures { (result ≡ first_link path.now row) × (result ≤ row) }

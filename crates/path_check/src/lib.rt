@@ -3,7 +3,7 @@
 
 ghost use Rattle.std.specs.Prelude.{◌≡◌, ◌+◌, ◌<◌, ◌≤◌, length, MatchOption};
 ghost use Rattle.meaning.specs.Lists.{lowest};
-ghost use Rattle.meaning.specs.Rows.{rows_of, path_length_allowed, bad_literal, bad_literal_at, links_again, misplaced, broken_row};
+ghost use Rattle.meaning.specs.Rows.{rows_of, bad_literal, bad_literal_at, links_again, misplaced, broken_row};
 ghost use Rattle.meaning.specs.Tree.{tree, depth};
 ghost use Rattle.meaning.specs.Answers.{told};
 ghost use Rattle.meaning.specs.Promises.{ChecksPath};
@@ -12,22 +12,12 @@ ghost use Rattle.path_check.specs.Passes.{Depths};
 use links::{LINKS, Linked};
 use meaning::Refusal;
 use path::fields::{has_good_fields, is_path, is_unknown};
-use path::{first_link, op_at, row_count, second_link};
-
-const MOST_ROWS: usize = 256;
+use path::{first_link, op_at, second_link};
+use rows::Rows;
 
 const MOST_LITERALS: usize = 64;
 
 const MOST_DEPTH: usize = 8;
-
-// Whole rows, 1 to 256 of them.
-#[tactic(auto, unfolding(meaning::specs::Rows::path_length_allowed))]
-fn is_length_allowed(path: &[u32]) -> bool
-    ensures { result ≡ path_length_allowed path.now }
-{
-    let rows = row_count(path);
-    path.len() % 5 == 0 && 1 <= rows && rows <= MOST_ROWS
-}
 
 // A NaN has no bits to look at, so it is told apart first.
 #[tactic(auto, unfolding(meaning::specs::Rows::bad_literal))]
@@ -95,13 +85,12 @@ fn is_broken(literals: usize, all: &Linked, lower: &Linked) -> bool
 }
 
 // The first broken row: goes upwards with the links of the lower rows marked, beside those of all.
-fn lowest_broken_row(path: &[u32], literals: usize) -> Option<usize>
-    requires { rows_of path.now ≤ 256 }
-    ensures { MatchOption result (lowest (broken_row path.now literals) (rows_of path.now) ≡ rows_of path.now) (λ r. (r ≡ lowest (broken_row path.now literals) (rows_of path.now)) × (r < rows_of path.now)) }
+fn lowest_broken_row(rows: &Rows, literals: usize) -> Option<usize>
+    ensures { MatchOption result (lowest (broken_row rows.now.path.now literals) rows.now.count ≡ rows.now.count) (λ r. (r ≡ lowest (broken_row rows.now.path.now literals) rows.now.count) × (r < rows.now.count)) }
 {
-    let all = Linked::by_all(path);
-    let mut lower = Linked::by_none(path);
-    for row in 0..row_count(path) {
+    let all = Linked::by_all(rows);
+    let mut lower = Linked::by_none(rows.path);
+    for row in 0..rows.count {
         if is_broken(literals, &all, &lower) {
             return Some(row);
         }
@@ -126,35 +115,34 @@ fn row_depth(path: &[u32], row: usize, depths: &[usize]) -> usize
 }
 
 // Links fall, so upwards each depth finds those it needs.
-fn depth_of(path: &[u32]) -> usize
-    requires { rows_of path.now ≤ 256 }
-    ensures { result ≡ depth (tree path.now (rows_of path.now)) }
+fn depth_of(rows: &Rows) -> usize
+    ensures { result ≡ depth (tree rows.now.path.now rows.now.count) }
 {
-    let rows = row_count(path);
     let mut depths = [0usize; LINKS];
-    for row in 0..rows {
-        depths[row + 1] = row_depth(path, row, &depths);
+    for row in 0..rows.count {
+        depths[row + 1] = row_depth(rows.path, row, &depths);
     }
-    depths[rows]
+    depths[rows.count]
 }
 
 // Is a path accepted, and of how many rows? The first check that applies refuses it.
 pub fn check_path(path: &[u32], literals: &[f64]) -> Result<u32, Refusal>
     ensures { ChecksPath path.now literals.now (told result) }
 {
-    if !is_length_allowed(path) {
+    let Some(rows) = Rows::of(path) else {
         return Err(Refusal::PathLength);
-    }
+    };
     if let Some(i) = lowest_bad_literal(literals) {
         return Err(Refusal::BadLiteral(i as u32));
     }
-    if let Some(row) = lowest_broken_row(path, literals.len()) {
+    if let Some(row) = lowest_broken_row(&rows, literals.len()) {
         return Err(Refusal::BrokenPathRow(row as u32));
     }
-    if MOST_DEPTH < depth_of(path) {
+    if MOST_DEPTH < depth_of(&rows) {
         return Err(Refusal::TooDeep);
     }
-    Ok(row_count(path) as u32)
+    Ok(rows.count as u32)
 }
 
 mod links;
+mod rows;

@@ -1,9 +1,10 @@
 // The links that the first rows of a path hold, as marks.
 ghost use Rattle.std.specs.Prelude.{◌≡◌, ◌+◌, ◌≤◌};
-ghost use Rattle.meaning.specs.Rows.{rows_of, linked_below};
+ghost use Rattle.meaning.specs.Rows.{linked_below};
 ghost use Rattle.path_check.specs.Passes.{Marks};
 
-use path::{first_link, row_count, second_link};
+use super::Rows;
+use path::{first_link, second_link};
 
 // The links of a path of the most rows, and 0 for no link.
 pub const LINKS: usize = 257;
@@ -30,12 +31,11 @@ impl<'a> Linked<'a> {
     }
 
     // Those of all rows.
-    pub fn by_all(path: &'a [u32]) -> Self
-        requires { rows_of path.now ≤ 256 }
-        ensures { (result.path.now ≡ path.now) × (result.rows ≡ rows_of path.now) }
+    pub fn by_all(rows: &Rows<'a>) -> Self
+        ensures { (result.path.now ≡ rows.now.path.now) × (result.rows ≡ rows.now.count) }
     {
-        let mut all = Linked::by_none(path);
-        for _ in 0..row_count(path) {
+        let mut all = Linked::by_none(rows.path);
+        for _ in 0..rows.count {
             all.add_row();
         }
         all

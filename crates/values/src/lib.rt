@@ -119,7 +119,8 @@ pub fn is_decided(op: Op, u: Value) -> bool
     }
 }
 
-// The table of ops: u and v are the operands, n is how many nodes the op's path selects.
+// The table of ops: u and v are the operands, n is how many nodes the op's path selects. Each caller has other ones of these, so a struct
+// of them would be built at each call only to be taken apart here.
 #[tactic(auto, unfolding(meaning::specs::Meaning::applied))]
 pub fn apply(
     literals: &[f64],

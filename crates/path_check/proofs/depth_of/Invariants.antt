@@ -5,4 +5,4 @@ use Rattle.path_check.specs.Passes.{Depths}
 use Rattle.path_check.proofs.depth_of.Given as goal
 
 abbrev pub invariant-loop-row : goal.invariant-loop-row
-invariant-loop-row l = (length l.depths ≡ 257) × Depths l.path l.row l.depths
+invariant-loop-row l = (length l.depths ≡ 257) × Depths l.rows.path.now l.row l.depths

@@ -9,12 +9,12 @@ loop-row-init c = (omega arith, c.by_none-lower.ensures.0, passed_start _)
 
 pub returns-then-is_broken : goal.returns-then-is_broken
 returns-then-is_broken c =
-    let broken : broken_row c.args.path.now c.args.literals c.loop-row.row ≡ true = cc in
+    let broken : broken_row c.args.rows.now.path.now c.args.literals c.loop-row.row ≡ true = cc in
     (passed_found _ _ _ c.loop-row.invariant.2 (omega arith) broken, omega arith)
 
 pub loop-row-preserved : goal.loop-row-preserved
 loop-row-preserved c =
-    let sound : broken_row c.args.path.now c.args.literals c.loop-row.row ≡ false = cc in
+    let sound : broken_row c.args.rows.now.path.now c.args.literals c.loop-row.row ≡ false = cc in
     (omega arith, cc, passed_more _ _ c.loop-row.invariant.2 sound)
 
 pub returns : goal.returns

@@ -6,4 +6,4 @@ use Rattle.meaning.proofs.Checks.{Passed}
 use Rattle.path_check.proofs.lowest_broken_row.Given as goal
 
 abbrev pub invariant-loop-row : goal.invariant-loop-row
-invariant-loop-row l = (l.lower.rows ≡ l.row) × (l.lower.path.now ≡ l.path) × Passed (broken_row l.path l.literals) l.row
+invariant-loop-row l = (l.lower.rows ≡ l.row) × (l.lower.path.now ≡ l.rows.path.now) × Passed (broken_row l.rows.path.now l.literals) l.row

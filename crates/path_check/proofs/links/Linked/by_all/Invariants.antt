@@ -3,4 +3,4 @@ use Rattle.std.proofs.Common.{◌≡◌}
 use Rattle.path_check.proofs.links.Linked.by_all.Given as goal
 
 abbrev pub invariant-loop : goal.invariant-loop
-invariant-loop l = (l.all.path.now ≡ l.path) × (l.all.rows ≡ l.counter)
+invariant-loop l = (l.all.path.now ≡ l.rows.path.now) × (l.all.rows ≡ l.counter)
