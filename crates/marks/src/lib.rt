@@ -1,4 +1,5 @@
-// A set of nodes as marks: mark y says whether node y is in the set. Lists of nodes are the marked rows, ascending.
+// A set of nodes as marks: mark y says whether node y is in the set. Lists of nodes are the marked rows, ascending. Marks are joined by &
+// and |, which read both sides, so that no branch hangs on a mark.
 #![tactic(auto)]
 
 ghost use Rattle.std.specs.Prelude.{◌≡◌, false, cond, ◌||◌, ◌++◌, ℕ, ◌<◌, ◌≤◌, length, get_or, take, drop};
@@ -69,7 +70,7 @@ pub fn sift(edition: usize, table: &[u32], axis: Axis, test: Test, marks: &mut [
             each(
                 marks,
                 row_count(table),
-                |y, marked| marked && passes_test(table, kind, read, y),
+                |y, marked| marked & passes_test(table, kind, read, y),
             );
         }
     }
@@ -80,7 +81,7 @@ pub fn meet(table: &[u32], others: &[bool], marks: &mut [bool])
     requires { (rows table.now ≤ length others.now) × (rows table.now ≤ length marks.old) }
     ensures { Met table.now others.now marks.old marks.new }
 {
-    each(marks, row_count(table), |y, marked| marked && others[y]);
+    each(marks, row_count(table), |y, marked| marked & others[y]);
 }
 
 // The rows that are marked in the other set are marked too.
@@ -88,7 +89,7 @@ pub fn join(table: &[u32], others: &[bool], marks: &mut [bool])
     requires { (rows table.now ≤ length others.now) × (rows table.now ≤ length marks.old) }
     ensures { Joined table.now others.now marks.old marks.new }
 {
-    each(marks, row_count(table), |y, marked| marked || others[y]);
+    each(marks, row_count(table), |y, marked| marked | others[y]);
 }
 
 // How many rows are marked.
@@ -96,8 +97,13 @@ pub fn count_marks(table: &[u32], marks: &[bool]) -> usize
     requires { rows table.now ≤ length marks.now }
     ensures { (result ≡ length (listed table.now marks.now)) × (result ≤ rows table.now) }
 {
-    let n = row_count(table);
-    marks[..n].iter().filter(|marked| **marked).count()
+    let mut m = 0;
+    for marked in &marks[..row_count(table)] {
+        if *marked {
+            m += 1;
+        }
+    }
+    m
 }
 
 // Writes the marked rows, ascending, at the front of a list that has room for them; the rest stays.

@@ -2,11 +2,11 @@
 -- A gathered scalar is read as a test of a number (is it below the scalar, or above?), flags as a test of a row; so one
 -- statement, `Gathered`, serves them all, and an axis is a window on the rows whose test the scalar answers.
 -- Assumes nothing.
-use Rattle.std.proofs.Common.{◌≡◌, refl, sym, ap, ◌∙◌, ◌⊎◌, inl, inr, ℕ, suc, ◌+◌, ◌-◌, ◌<◌, ◌≤◌, max, min, Bool, true, false, ◌&&◌, ◌||◌, not, List, length, get_or, arith, add-one, eqb, ltb, leb}
+use Rattle.std.proofs.Common.{◌≡◌, refl, sym, ap, ◌∙◌, ◌⊎◌, inl, inr, ℕ, suc, ◌+◌, ◌-◌, ◌<◌, ◌≤◌, Bool, true, false, ◌&&◌, ◌||◌, not, List, length, get_or, arith, add-one, eqb, ltb, leb}
 use Rattle.std.proofs.lemmas.List.{length-set, get_or-set_other, get_or-set_same}
-use mathlib.Core.Bool.{and-true, and-false, and_assoc, or-false, or_comm, and_comm}
+use mathlib.Core.Bool.{false≢true, and-true, and-false, and_assoc, or-false, or_comm, and_comm}
 use lib.ListN.{set}
-use borrow.Author.Tests.{lt-ltb, le-ltb, ne_eqb}
+use borrow.Author.Tests.{lt-ltb, le-ltb, ltb-true, ltb-false, ne_eqb}
 use Rattle.meaning.specs.Lists.{up_to, some}
 use Rattle.meaning.specs.Table.{rows, parent_of, end, is_attribute}
 use Rattle.meaning.specs.Axis.{under, inside, after, on}
@@ -50,32 +50,36 @@ module _ (B : ℕ) (g : ℕ → ℕ → Bool) (from : ℕ → Bool) where
 
 -- ---- the running scalars
 
--- what is below the larger of two is below one of them
-pub below_max : (y a v : ℕ) → ltb y (max a v) ≡ (ltb y a || ltb y v)
-below_max y a v = elim (lt_or_ge y a) [
-  | inl l ↦ rw (lt-ltb y a l, lt-ltb y (max a v) (omega arith))
-  | inr l ↦ rw (le-ltb y a l) (elim (lt_or_ge y v) [
-    | inl k ↦ rw (lt-ltb y v k, lt-ltb y (max a v) (omega arith))
-    | inr k ↦ rw (le-ltb y v k, le-ltb y (max a v) (omega arith))
-  ])
+-- v is given and larger than a, so it is taken: what is below a is below v as well
+pub larger_taken : (given : Bool) (y a v : ℕ) → (given && ltb a v) ≡ true → ltb y v ≡ (ltb y a || (given && ltb y v))
+larger_taken true y a v e = elim (lt_or_ge y a) [
+  | inl l ↦ rw (lt-ltb y a l, lt-ltb y v (omega (arith, ltb-true a v e)))
+  | inr l ↦ rw (le-ltb y a l)
 ]
+larger_taken false y a v e = absurd (false≢true e)
 
--- what is above the smaller of two is above one of them
-pub above_min : (y a v : ℕ) → ltb (min a v) y ≡ (ltb a y || ltb v y)
-above_min y a v = elim (lt_or_ge a y) [
-  | inl l ↦ rw (lt-ltb a y l, lt-ltb (min a v) y (omega arith))
-  | inr l ↦ rw (le-ltb a y l) (elim (lt_or_ge v y) [
-    | inl k ↦ rw (lt-ltb v y k, lt-ltb (min a v) y (omega arith))
-    | inr k ↦ rw (le-ltb v y k, le-ltb (min a v) y (omega arith))
-  ])
+-- v is not given or not larger, so a stays
+pub larger_left : (given : Bool) (y a v : ℕ) → (given && ltb a v) ≡ false → ltb y a ≡ (ltb y a || (given && ltb y v))
+larger_left true y a v e = elim (lt_or_ge y a) [
+  | inl l ↦ rw (lt-ltb y a l)
+  | inr l ↦ rw (le-ltb y a l, le-ltb y v (omega (arith, ltb-false a v e)))
 ]
+larger_left false y a v e = sym (or-false (ltb y a))
 
--- a row that gives is taken, and one that does not leaves what was
-pub taken : (given a v r : Bool) → given ≡ true → r ≡ (a || v) → r ≡ (a || (given && v))
-taken given a v r e h = rw e h
+-- the same of what is smaller
+pub smaller_taken : (given : Bool) (y a v : ℕ) → (given && ltb v a) ≡ true → ltb v y ≡ (ltb a y || (given && ltb v y))
+smaller_taken true y a v e = elim (lt_or_ge a y) [
+  | inl l ↦ rw (lt-ltb a y l, lt-ltb v y (omega (arith, ltb-true v a e)))
+  | inr l ↦ rw (le-ltb a y l)
+]
+smaller_taken false y a v e = absurd (false≢true e)
 
-pub left : (given a v r : Bool) → given ≡ false → r ≡ a → r ≡ (a || (given && v))
-left given a v r e h = rw e (h ∙ sym (or-false a))
+pub smaller_left : (given : Bool) (y a v : ℕ) → (given && ltb v a) ≡ false → ltb a y ≡ (ltb a y || (given && ltb v y))
+smaller_left true y a v e = elim (lt_or_ge a y) [
+  | inl l ↦ rw (lt-ltb a y l)
+  | inr l ↦ rw (le-ltb a y l, le-ltb v y (omega (arith, ltb-false v a e)))
+]
+smaller_left false y a v e = sym (or-false (ltb a y))
 
 -- ---- what rows give, and what is taken of it
 

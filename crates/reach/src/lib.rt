@@ -73,8 +73,8 @@ fn mark_inside(table: &[u32], own: bool, taken: Asked, marks: &mut [bool])
         let past = end_at(table, i) + 1;
         let reached = (i < far) & admits(table, taken, i);
         marks[i] = (own & marked) | reached;
-        if marked {
-            far = far.max(past);
+        if marked & (far < past) {
+            far = past;
         }
     }
 }
@@ -89,8 +89,8 @@ fn mark_around(table: &[u32], own: bool, given: Asked, marks: &mut [bool])
         let marked = marks[i];
         let reached = near < end_at(table, i) + 1;
         let counted = marked & admits(table, given, i);
-        if counted {
-            near = near.min(i);
+        if counted & (i < near) {
+            near = i;
         }
         marks[i] = (own & marked) | reached;
     }
@@ -106,8 +106,8 @@ fn mark_after(table: &[u32], given: Asked, taken: Asked, marks: &mut [bool])
         let counted = marks[i] & admits(table, given, i);
         let end = end_at(table, i);
         marks[i] = (low < i) & admits(table, taken, i);
-        if counted {
-            low = low.min(end);
+        if counted & (end < low) {
+            low = end;
         }
     }
 }
@@ -121,8 +121,8 @@ fn mark_before(table: &[u32], given: Asked, taken: Asked, marks: &mut [bool])
     for i in (0..row_count(table)).rev() {
         let counted = marks[i] & admits(table, given, i);
         let reached = (end_at(table, i) < high) & admits(table, taken, i);
-        if counted {
-            high = high.max(i);
+        if counted & (high < i) {
+            high = i;
         }
         marks[i] = reached;
     }

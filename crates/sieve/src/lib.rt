@@ -1,6 +1,6 @@
 // Truths decided for all rows of a set at once: a state for each row in one array, so that no nested operand needs a buffer.
 // At nesting level l the rows in question have the state 2l, and all others a lower one; where the truth does not hold the
-// state becomes 2l + 1.
+// state becomes 2l + 1. Tests are joined by &, which reads both sides, so that no branch hangs on a state or a mark.
 #![tactic(auto)]
 
 ghost use Rattle.std.specs.Prelude.{◌≡◌, ℕ, false, cond, ◌+◌, ◌<◌, ◌≤◌, length, get_or, drop};
@@ -101,7 +101,7 @@ pub fn settle(states: &mut [u16], marks: &[bool], n: usize, active: u16)
     each(
         states,
         n,
-        |y, s| if s == active && !marks[y] { next } else { s },
+        |y, s| if (s == active) & !marks[y] { next } else { s },
     );
 }
 
@@ -121,5 +121,5 @@ pub fn retain(states: &[u16], active: u16, marks: &mut [bool], n: usize)
     requires { (n ≤ length states.now) × (n ≤ length marks.old) }
     ensures { Retained n active states.now marks.old marks.new }
 {
-    each(marks, n, |y, marked| marked && states[y] == active);
+    each(marks, n, |y, marked| marked & (states[y] == active));
 }

@@ -1,24 +1,25 @@
--- `marks::count_marks` meets its contract: as many are marked of the rows as are true of their marks.
--- Assumes nothing.
-use Rattle.std.proofs.Common.{◌≡◌, ℕ, zero, suc, ◌≤◌, Bool, true, false, List, length, take, get_or, rules, arith, add-one, refl, ◌∙◌}
-use Rattle.std.specs.List.{count_by}
-use Rattle.std.proofs.lemmas.List.Sums.{count_by_more_yes, count_by_more_no, count_by-le-length}
+-- The answers of `marks::count_marks`: what its code leaves to show, by the invariant beside this file. Assumes nothing.
+use Rattle.std.proofs.Common.{◌≤◌, length, arith}
 use Rattle.std.proofs.lemmas.List.{length-take-le}
-use Rattle.meaning.proofs.Marks.{Counted, counted_start, counted_more, counted_skip, counted_done}
+use Rattle.meaning.proofs.Marks.{counted_start, counted_more, counted_skip, counted_done}
+use Rattle.marks.proofs.Rows.{mark_of_row}
 use Rattle.marks.proofs.count_marks.Goals as goal
+use Rattle.marks.proofs.count_marks.Goals.{then-marked, else-marked}
 
-counted_front : (marks : List Bool) (n : ℕ) → n ≤ length marks → Counted marks (count_by (λ b. b) (take n marks)) n
-counted_front marks zero l = counted_start marks
-counted_front marks (suc n) l = more (get_or marks n false) refl (counted_front marks n (omega arith))
-  where
-    more : (b : Bool) → get_or marks n false ≡ b → Counted marks (count_by (λ b. b) (take n marks)) n → Counted marks (count_by (λ b. b) (take (suc n) marks)) (suc n)
-    more true e h = rw (← add-one n, count_by_more_yes (λ b. b) marks n false (omega arith) e) (counted_more marks _ n h e)
-    more false e h = rw (← add-one n, count_by_more_no (λ b. b) marks n false (omega arith) e) (counted_skip marks _ n h e)
+pub loop-marked-init : goal.loop-marked-init
+loop-marked-init c = (omega arith, counted_start _)
+
+pub loop-marked-preserved : goal.loop-marked-preserved
+loop-marked-preserved c =
+    let room : c.row_count.result ≤ length c.args.marks.now = omega (arith, c.requires, c.row_count.ensures) in
+    let inv = c.loop-marked.invariant.1 in
+    elim c.if-marked.branch [
+      | then-marked w ↦ (omega arith, rw w.m-is (counted_more _ _ _ inv (mark_of_row _ _ _ _ room c.loop-marked-test.true w.if-marked.true)))
+      | else-marked w ↦ (omega arith, rw w.m-is (counted_skip _ _ _ inv (mark_of_row _ _ _ _ room c.loop-marked-test.true w.if-marked.false)))
+    ]
 
 pub returns : goal.returns
 returns c =
-    let n = c.row_count-n.result in
-    let marks = c.args.marks.now in
-    let e : c.count.result ≡ count_by (λ b. b) (take n marks) = search rules in
-    let room : n ≤ length marks = omega (arith, c.requires, c.row_count-n.ensures) in
-    (e ∙ counted_done marks c.args.table.now _ n (counted_front marks n room) c.row_count-n.ensures, omega (arith, e, count_by-le-length (λ b. b) (take n marks), length-take-le n marks room, c.row_count-n.ensures))
+    let room : c.row_count.result ≤ length c.args.marks.now = omega (arith, c.requires, c.row_count.ensures) in
+    let all = length-take-le _ _ room in
+    (counted_done _ c.args.table.now _ _ c.loop-marked.invariant.1 (omega (arith, all, c.row_count.ensures)), omega (arith, all, c.row_count.ensures, c.loop-marked.auto))

@@ -1,15 +1,10 @@
 -- The answers of `marks::list_marks`: what its code leaves to show, by the invariant beside this file. Assumes nothing.
-use Rattle.std.proofs.Common.{◌≡◌, ◌∙◌, sym, ℕ, ◌<◌, ◌≤◌, Bool, false, List, length, get_or, take, arith}
-use Rattle.std.proofs.lemmas.List.{get_or-take, length-take-le}
+use Rattle.std.proofs.Common.{◌≤◌, length, arith}
+use Rattle.std.proofs.lemmas.List.{length-take-le}
 use Rattle.meaning.proofs.Marks.{counted_start, counted_more, counted_skip, counted_room, listing_start, listing_more, listing_skip, listing_done}
+use Rattle.marks.proofs.Rows.{mark_of_row}
 use Rattle.marks.proofs.list_marks.Goals as goal
 use Rattle.marks.proofs.list_marks.Goals.{then-marked, else-marked}
-
--- a mark of the rows is a mark of the set
-mark_of_row : (marks : List Bool) (n y : ℕ) (b : Bool) → n ≤ length marks → y < length (take n marks) → get_or (take n marks) y false ≡ b → get_or marks y false ≡ b
-mark_of_row marks n y b room l e =
-    let low : y < n = omega (arith, length-take-le n marks room) in
-    sym (get_or-take n marks y false low) ∙ e
 
 pub loop-y-init : goal.loop-y-init
 loop-y-init c = (omega arith, counted_start _, listing_start _ _)

@@ -4,9 +4,9 @@ use borrow.Author.Tests.{le-ltb}
 use Rattle.meaning.specs.Table.{rows}
 use Rattle.meaning.proofs.Marks.{wrote_start, wrote_more, wrote_ahead}
 use Rattle.reach.specs.Reach.{admitted, beyond}
-use Rattle.reach.proofs.Sweep.{gathered_start, gathered_more, above_min, taken, left, gives, after_hit, up_hits}
+use Rattle.reach.proofs.Sweep.{gathered_start, gathered_more, smaller_taken, smaller_left, gives, after_hit, up_hits}
 use Rattle.reach.proofs.mark_after.Goals as goal
-use Rattle.reach.proofs.mark_after.Goals.{then-counted, else-counted}
+use Rattle.reach.proofs.mark_after.Goals.{then-counted-end, else-counted-end}
 
 pub loop-i-init : goal.loop-i-init
 loop-i-init c = (gathered_start _ _ _ _ (λ y l. le-ltb beyond y (omega arith)), wrote_start _ _)
@@ -18,9 +18,9 @@ loop-i-preserved c =
     let old = wrote_ahead _ _ _ _ c.loop-i.i inv.1 (omega arith) in
     let low : c.loop-i.i < rows t = omega arith in
     let own = gives c.args.marks.now (admitted t c.args.given) c.loop-i.i _ _ old c.admits.ensures in (
-      gathered_more _ _ _ _ _ _ inv.0 (λ y l. rw (← own, ← c.end_at-end.ensures.0) (elim c.if-counted.branch [
-        | then-counted w ↦ taken _ _ _ _ w.if-counted.true (rw (w.low-is, w.min-low.ensures) (above_min y c.loop-i.low _))
-        | else-counted w ↦ left _ _ _ _ w.if-counted.false (rw w.low-is)
+      gathered_more _ _ _ _ _ _ inv.0 (λ y l. rw (← own, ← c.end_at-end.ensures.0) (elim c.if-counted-end.branch [
+        | then-counted-end w ↦ rw w.low-is (smaller_taken _ y _ _ w.if-counted-end.true)
+        | else-counted-end w ↦ rw w.low-is (smaller_left _ y _ _ w.if-counted-end.false)
       ])),
       wrote_more _ _ _ _ _ inv.1 (omega arith) (rw c.admits-in-loop-i.ensures (after_hit _ _ _ low c.args.given c.args.taken _ inv.0 (omega arith))),
     )

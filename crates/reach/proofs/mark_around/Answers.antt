@@ -5,9 +5,9 @@ use Rattle.meaning.specs.Table.{rows}
 use Rattle.meaning.proofs.Windows.{up_from}
 use Rattle.meaning.proofs.Marks.{down_start, down_more, down_ahead}
 use Rattle.reach.specs.Reach.{admitted, beyond}
-use Rattle.reach.proofs.Sweep.{Gathered, gathered_top, gathered_down, above_min, taken, left, giving, gives, around_hit, down_hits}
+use Rattle.reach.proofs.Sweep.{Gathered, gathered_top, gathered_down, smaller_taken, smaller_left, giving, gives, around_hit, down_hits}
 use Rattle.reach.proofs.mark_around.Goals as goal
-use Rattle.reach.proofs.mark_around.Goals.{then-counted, else-counted}
+use Rattle.reach.proofs.mark_around.Goals.{then-counted-i, else-counted-i}
 
 pub loop-i-init : goal.loop-i-init
 loop-i-init c = rw c.row_count-i.ensures (gathered_top _ _ _ _ _ (λ y l. le-ltb beyond y (omega arith)), down_start _ _ _)
@@ -23,9 +23,9 @@ loop-i-preserved c =
     let old = down_ahead _ _ _ _ _ (i - 1) inv.1 (omega arith) low in
     let own = gives c.args.marks.now (admitted t c.args.given) (i - 1) _ _ old c.admits.ensures in
     let after : Gathered (beyond + 1) ltb (giving c.args.marks.now (admitted t c.args.given)) (up_from (i - 1 + 1) (n - (i - 1 + 1))) (λ z. ltb c.loop-i.near z) = rw (← back) inv.0 in (
-      gathered_down _ _ _ n (i - 1) _ _ low after (λ y l. rw (← own) (elim c.if-counted.branch [
-        | then-counted w ↦ taken _ _ _ _ w.if-counted.true (rw (w.near-is, w.min-near.ensures) (above_min y c.loop-i.near _))
-        | else-counted w ↦ left _ _ _ _ w.if-counted.false (rw w.near-is)
+      gathered_down _ _ _ n (i - 1) _ _ low after (λ y l. rw (← own) (elim c.if-counted-i.branch [
+        | then-counted-i w ↦ rw w.near-is (smaller_taken _ y _ _ w.if-counted-i.true)
+        | else-counted-i w ↦ rw w.near-is (smaller_left _ y _ _ w.if-counted-i.false)
       ])),
       down_more _ n c.args.marks.now c.loop-i.marks (i - 1) _ (rw (← back) inv.1) (omega arith) (rw (c.end_at.ensures.0, old) (around_hit _ _ _ low c.args.own c.args.given _ after (omega (arith, c.end_at.ensures)))),
     )

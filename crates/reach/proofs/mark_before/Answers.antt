@@ -5,9 +5,9 @@ use Rattle.meaning.specs.Table.{rows}
 use Rattle.meaning.proofs.Windows.{up_from}
 use Rattle.meaning.proofs.Marks.{down_start, down_more, down_ahead}
 use Rattle.reach.specs.Reach.{admitted, beyond}
-use Rattle.reach.proofs.Sweep.{Gathered, gathered_top, gathered_down, below_max, taken, left, giving, gives, before_hit, down_hits}
+use Rattle.reach.proofs.Sweep.{Gathered, gathered_top, gathered_down, larger_taken, larger_left, giving, gives, before_hit, down_hits}
 use Rattle.reach.proofs.mark_before.Goals as goal
-use Rattle.reach.proofs.mark_before.Goals.{then-counted, else-counted}
+use Rattle.reach.proofs.mark_before.Goals.{then-counted-high, else-counted-high}
 
 pub loop-i-init : goal.loop-i-init
 loop-i-init c = rw c.row_count-i.ensures (gathered_top _ _ _ _ _ (λ y l. le-ltb y 0 (omega arith)), down_start _ _ _)
@@ -23,9 +23,9 @@ loop-i-preserved c =
     let old = down_ahead _ _ _ _ _ (i - 1) inv.1 (omega arith) low in
     let own = gives c.args.marks.now (admitted t c.args.given) (i - 1) _ _ old c.admits.ensures in
     let after : Gathered (beyond + 1) (λ x z. ltb z x) (giving c.args.marks.now (admitted t c.args.given)) (up_from (i - 1 + 1) (n - (i - 1 + 1))) (λ z. ltb z c.loop-i.high) = rw (← back) inv.0 in (
-      gathered_down _ _ _ n (i - 1) _ _ low after (λ y l. rw (← own) (elim c.if-counted.branch [
-        | then-counted w ↦ taken _ _ _ _ w.if-counted.true (rw (w.high-is, w.max-high.ensures) (below_max y c.loop-i.high _))
-        | else-counted w ↦ left _ _ _ _ w.if-counted.false (rw w.high-is)
+      gathered_down _ _ _ n (i - 1) _ _ low after (λ y l. rw (← own) (elim c.if-counted-high.branch [
+        | then-counted-high w ↦ rw w.high-is (larger_taken _ y _ _ w.if-counted-high.true)
+        | else-counted-high w ↦ rw w.high-is (larger_left _ y _ _ w.if-counted-high.false)
       ])),
       down_more _ n c.args.marks.now c.loop-i.marks (i - 1) _ (rw (← back) inv.1) (omega arith) (rw (c.end_at.ensures.0, c.admits-in-loop-i.ensures) (before_hit _ _ _ low c.args.given c.args.taken _ after (omega (arith, c.end_at.ensures)))),
     )
