@@ -66,20 +66,25 @@ fn call_token(
         opens.new 4 }
 {
     let hand = bench.hand;
-    let height = bench.height;
     match number {
         0 => {
             let done = write_row(hand, rows, 2, 0, 0, 0, 0, Sort::Numeral);
-            Bench { hand: done, height }
+            Bench {
+                hand: done,
+                ..bench
+            }
         }
         1 => {
             let done = write_row(hand, rows, 3, 0, 0, 0, 0, Sort::Numeral);
-            Bench { hand: done, height }
+            Bench {
+                hand: done,
+                ..bench
+            }
         }
         2 => push_frame(bench, ops, opens, 21, 0, 0),
         3 => push_frame(bench, ops, opens, 18, 0, 0),
         4 => {
-            open_truth(height, opens);
+            open_truth(bench.height, opens);
             bench
         }
         _ => bench,
@@ -94,12 +99,10 @@ fn left_operand(bench: Bench, rows: &mut [u32], k: usize) -> Bench
     if 2 < k {
         return bench;
     }
-    let hand = bench.hand;
-    let truth = made_truth(hand, rows);
-    let height = bench.height;
+    let truth = made_truth(bench.hand, rows);
     Bench {
         hand: truth,
-        height,
+        ..bench
     }
 }
 

@@ -44,16 +44,14 @@ pub fn push_frame(
     let hand = bench.hand;
     store_frame(ops, 4 * height, op, hand.link, c, d);
     store_open(opens, 2 * height, 0, 0);
-    let rows = hand.rows;
     let empty = Hand {
         link: 0,
         sort: Sort::Unheld,
-        rows,
+        ..hand
     };
-    let more = height + 1;
     Bench {
         hand: empty,
-        height: more,
+        height: height + 1,
     }
 }
 
@@ -186,11 +184,10 @@ pub fn close_round(bench: Bench, rows: &mut [u32], ops: &[u32], opens: &mut [usi
     if open != last {
         return bench;
     }
-    let hand = bench.hand;
-    let truth = made_truth(hand, rows);
+    let truth = made_truth(bench.hand, rows);
     Bench {
         hand: truth,
-        height,
+        ..bench
     }
 }
 

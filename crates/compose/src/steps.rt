@@ -53,8 +53,10 @@ fn point_token(state: State, mode: usize, axis: u32, rows: &mut [u32]) -> State
     let bench = state.bench;
     let hand = bench.hand;
     let done = write_row(hand, rows, 24, hand.link, 0, axis, 0, Sort::Unheld);
-    let height = bench.height;
-    let next = Bench { hand: done, height };
+    let next = Bench {
+        hand: done,
+        ..bench
+    };
     moved_to(state, mode, next)
 }
 
@@ -95,8 +97,7 @@ fn step_ended(state: State, rows: &mut [u32], ops: &[u32], opens: &[usize]) -> S
     if is_beginning(mode) {
         return state;
     }
-    let bench = state.bench;
-    let done = settle_frames(bench, rows, ops, opens, 10);
+    let done = settle_frames(state.bench, rows, ops, opens, 10);
     moved_to(state, mode, done)
 }
 
@@ -178,10 +179,11 @@ pub fn number_token(
     let index = index_of(values, n, value);
     let literals = keep_value(values, n, index, value);
     let bench = state.bench;
-    let hand = bench.hand;
-    let done = write_row(hand, rows, 1, index as u32, 0, 0, 0, Sort::Numeral);
-    let height = bench.height;
-    let next = Bench { hand: done, height };
+    let done = write_row(bench.hand, rows, 1, index as u32, 0, 0, 0, Sort::Numeral);
+    let next = Bench {
+        hand: done,
+        ..bench
+    };
     State {
         mode,
         literals,

@@ -2,10 +2,8 @@
 // rows and the literals. Nothing is written before all checks are passed.
 #![tactic(auto)]
 
-ghost use Rattle.std.specs.Prelude.{◌≡◌, false, ◌*◌, ◌<◌, ◌≤◌, length, IfErr};
-ghost use Rattle.names.specs.Names.{names_of, bad_names};
+ghost use Rattle.std.specs.Prelude.{◌≡◌, ◌*◌, ◌<◌, ◌≤◌, length, IfErr};
 ghost use Rattle.names.specs.Index.{Roomy};
-ghost use Rattle.text.specs.Forms.{form_of, found};
 ghost use Rattle.text.specs.Reading.{ReadsPath};
 ghost use Rattle.reader.specs.Handing.{Clean, handed, literals_told, Hands};
 ghost use Rattle.reader.specs.Told.{refused, told, literals_of};
@@ -98,14 +96,6 @@ fn read_clean(
     hand_over(composed, &drafted, &values, rows, literals)
 }
 
-// What is wrong in a text, if anything is.
-fn survey_all(text: &[u8], names: &Names) -> Option<Fault>
-    ensures { result ≡ found (form_of text.now) text.now names.now.list.now }
-{
-    let mut window = [0usize; 8192];
-    survey_text(text, names, &mut window)
-}
-
 // Reads a text by names of which so many lines of one hash and so many 8th lines have room in an index on the stack.
 fn read_within<const LINES: usize, const EIGHTHS: usize>(
     text: &[u8],
@@ -128,7 +118,7 @@ fn read_within<const LINES: usize, const EIGHTHS: usize>(
         nexts: &nexts,
         starts: &starts,
     };
-    match survey_all(text, &names) {
+    match survey_text(text, &names) {
         Some(fault) => Err(TextRefusal::Wrong(fault)),
         None => read_clean(text, &names, rows, literals),
     }

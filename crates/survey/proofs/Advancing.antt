@@ -2,7 +2,7 @@
 -- code read, a law for each way on.
 -- Assumes nothing.
 use Rattle.text.specs.declared.Run.TheVariants.{Spaces}
-use Prim.Native.Nat.{ℕ, ◌+◌, ◌-◌, ◌*◌, ◌≤◌, ◌<◌}
+use Prim.Native.Nat.{ℕ, ◌+◌, ◌-◌, ◌≤◌, ◌<◌}
 use mathlib.Core.Path.{◌≡◌, refl, sym, ◌∙◌, ap, subst⁻¹}
 use mathlib.Core.Bool.{Bool, true, false, not, cond, true≢false}
 use mathlib.Core.List.{List, []}
@@ -47,14 +47,14 @@ is_so false e = sym e
 
 -- ---- it goes on, or it ends
 
-module _ (text list w : List ℕ) (k : ℕ) (r : State) where
+module _ (text list : List ℕ) (w : List Level) (k : ℕ) (r : State) where
   goes_on : Standing text list w r → r.ended ≡ false → r.count ≡ k + 1 → Advanced text list w k r
   goes_on h e n = record {
     surveyed = record { goes_on = λ _. h; ends = λ d. absurd (true≢false (sym d ∙ e)); size = h.size };
     further = λ _. n;
   }
 
-  has_ended : r.ended ≡ true → r.fault ≡ found (form_of text) text list → length w ≡ 4 * span → Advanced text list w k r
+  has_ended : r.ended ≡ true → r.fault ≡ found (form_of text) text list → length w ≡ span → Advanced text list w k r
   has_ended e f n = record {
     surveyed = record { goes_on = λ d. absurd (true≢false (sym e ∙ d)); ends = λ _. f; size = n };
     further = λ d. absurd (true≢false (sym e ∙ d));
@@ -62,7 +62,7 @@ module _ (text list w : List ℕ) (k : ℕ) (r : State) where
 
 -- ---- nothing was read
 
-module _ (text list w : List ℕ) (n : length w ≡ 4 * span) where
+module _ (text list : List ℕ) (w : List Level) (n : length w ≡ span) where
   first : byte_of text 0 ≡ run_end Spaces text 0
   first = byte_behind (cut_start text)
 
@@ -99,7 +99,7 @@ unfolding act_of act_number rows pick
 unknown_refused q = refl
 
 module _
-    {text list w : List ℕ} {s : State} (h : Standing text list w s) {t : Seen} (v : Sees text s.at s.due s.mode t) where
+    {text list : List ℕ} {w : List Level} {s : State} (h : Standing text list w s) {t : Seen} (v : Sees text s.at s.due s.mode t) where
   -- it is the end of the text
   pub advanced_ends :
       (r : State) → t.kind ≡ 34 → (r.ended ≡ true) × (r.fault ≡ last_fault (length text) s) → Advanced text list w s.count r
@@ -168,18 +168,18 @@ module _
 
     -- it opens a level
     pub advanced_enters :
-        (r : State) (own : Option ℕ) (w' : List ℕ) → own ≡ own_of (source text list) t.kind t.begin → 15 ≤ t.act → t.act < 18
+        (r : State) (own : Option ℕ) (w' : List Level) → own ≡ own_of (source text list) t.kind t.begin → 15 ≤ t.act → t.act < 18
         → (r ≡ opened_by own s t) × (w' ≡ stored w s.depth (level_past s t)) → Advanced text list w' s.count r
     unfolding opened_by
     advanced_enters r own w' o least most (e, d) =
-        subst⁻¹ (λ (u : List ℕ). Advanced text list u s.count r) d
+        subst⁻¹ (λ (u : List Level). Advanced text list u s.count r) d
         (subst⁻¹ (Advanced text list (stored w s.depth (level_past s t)) s.count) (e ∙ ap (λ (n : Option ℕ). opened_by n s t) o)
         (goes_on text list (stored w s.depth (level_past s t)) s.count (opened_by (own_of (source text list) t.kind t.begin) s t)
         (standing_enters h known class on least most) refl refl))
 
     -- it closes a level or parts two arguments
     pub advanced_closes :
-        (r : State) (w' : List ℕ) (low : ℕ) (outer : Level) → 18 ≤ t.act → Ready text s.count s.depth low w'
+        (r : State) (w' : List Level) (low : ℕ) (outer : Level) → 18 ≤ t.act → Ready text s.count s.depth low w'
         → outer ≡ level_at w' (s.depth - 1)
         → r ≡ cond (eqb t.act 20) (parted_by s t low outer) (left_by s t low outer) → Advanced text list w' s.count r
     unfolding left_by parted_by
@@ -200,7 +200,7 @@ abbrev pub steps_left : List ℕ → State → ℕ
 steps_left text s = cond s.ended 0 (length text + 1 - s.count)
 
 pub advanced_less :
-    {text list w w' : List ℕ} {s r : State} → s.ended ≡ false → Standing text list w s → Advanced text list w' s.count r
+    {text list : List ℕ} {w w' : List Level} {s r : State} → s.ended ≡ false → Standing text list w s → Advanced text list w' s.count r
     → steps_left text r < steps_left text s
 advanced_less {text = text} {s = s} {r = r} e h a = rw e (by r.ended refl)
   where

@@ -1,7 +1,7 @@
 -- Reading a text again, token by token: what the next token does to the trail, and that the window holds its levels behind it.
 -- Assumes nothing.
 use Rattle.text.specs.declared.Run.TheVariants.{Spaces}
-use Prim.Native.Nat.{ℕ, zero, suc, ◌+◌, ◌-◌, ◌*◌, ◌/◌, ◌%◌, ◌≤◌, ◌<◌}
+use Prim.Native.Nat.{ℕ, zero, suc, ◌+◌, ◌-◌, ◌/◌, ◌%◌, ◌≤◌, ◌<◌}
 use native.Mathlib.Omega.{arith}
 use native.Mathlib.Numerals.{add-one}
 use mathlib.Core.Path.{◌≡◌, refl, sym, ◌∙◌, ap, subst, subst⁻¹}
@@ -181,7 +181,7 @@ bracket_due k q h m a =
 
 -- ---- one token more
 
-module _ {text w : List ℕ} {lo hi : ℕ} {t : Trace} (r : Traced text w lo hi t) where
+module _ {text : List ℕ} {w : List Level} {lo hi : ℕ} {t : Trace} (r : Traced text w lo hi t) where
   left_by : Left (length text) t.mode r.level r.around t.name
   left_by = trail_is_left text t.count t.mode r.level r.around t.name r.cut.count r.trails
 
@@ -217,7 +217,7 @@ first_small (one h hs) = h
 abbrev pub level_behind : Trace → Seen → Level → Level
 level_behind t s l = level_in (group_of s.kind) (tightness_of s.kind) t.mode s.behind l
 
-module _ {text w : List ℕ} {lo hi : ℕ} {t : Trace} {s : Seen} (f : Follows text w lo hi t s) where
+module _ {text : List ℕ} {w : List Level} {lo hi : ℕ} {t : Trace} {s : Seen} (f : Follows text w lo hi t s) where
   trails_on :
       trail_of text (t.count + 1)
       ≡ trailed text s.kind s.act s.begin s.behind (trail t.mode f.traced.level f.traced.around t.name)
@@ -276,7 +276,7 @@ module _ {text w : List ℕ} {lo hi : ℕ} {t : Trace} {s : Seen} (f : Follows t
 
   -- one that opens a level: the level around it is kept, if the window is for it
   pub traced_opens :
-      (w' : List ℕ) (due : Bool) (mode : ℕ) (o l : Level) → 15 ≤ s.act → s.act < 18 → due ≡ operator_due s.kind
+      (w' : List Level) (due : Bool) (mode : ℕ) (o l : Level) → 15 ≤ s.act → s.act < 18 → due ≡ operator_due s.kind
       → mode ≡ cond (eqb s.act 16) 1 0
       → o ≡ level_behind t s t.level
       → l ≡ fresh (opened_kind s.act t.name) s.behind
@@ -300,13 +300,13 @@ module _ {text w : List ℕ} {lo hi : ℕ} {t : Trace} {s : Seen} (f : Follows t
         trails = trailed-on;
         deep = omega (arith, f.traced.deep);
         shallow = omega (arith, f.traced.shallow);
-        holds = subst⁻¹ (λ (v : List ℕ). Holds v lo hi levels) x (kept (leb lo t.depth && ltb t.depth hi) refl);
+        holds = subst⁻¹ (λ (v : List Level). Holds v lo hi levels) x (kept (leb lo t.depth && ltb t.depth hi) refl);
         same = λ i j. u;
         kind = rw u left.small.kind;
         rank = rw u left.small.rank;
         size =
             ap length x
-            ∙ choice (λ (v : List ℕ). length v ≡ 4 * span) (leb lo t.depth && ltb t.depth hi)
+            ∙ choice (λ (v : List Level). length v ≡ span) (leb lo t.depth && ltb t.depth hi)
             (λ _. stored_length w t.depth o ∙ f.traced.size) (λ _. f.traced.size);
         reach = f.traced.reach;
       }
@@ -321,7 +321,7 @@ module _ {text w : List ℕ} {lo hi : ℕ} {t : Trace} {s : Seen} (f : Follows t
           let fits : (level_behind t s f.traced.level).rank < 3 =
           subst (λ (z : Level). (level_behind t s z).rank < 3) (f.traced.same i j) behind_fits.1 in
           rw (f.traced.deep, same)
-          (holds_stored w lo hi lo hi (level_behind t s f.traced.level) f.traced.around f.traced.size fits (omega arith)
+          (holds_stored w lo hi lo hi (level_behind t s f.traced.level) f.traced.around f.traced.size (omega arith)
           (omega (arith, f.traced.deep)) (omega (arith, f.traced.deep, f.traced.reach)) f.traced.holds)
       kept false y = holds_passed w lo hi (level_behind t s f.traced.level) f.traced.around out f.traced.holds
         where
@@ -404,7 +404,7 @@ module _ {text w : List ℕ} {lo hi : ℕ} {t : Trace} {s : Seen} (f : Follows t
 -- ---- the whole reading
 
 pub traced_start :
-    (text w : List ℕ) (lo hi : ℕ) (l : Level) → l ≡ fresh 0 (run_end Spaces text 0) → length w ≡ 4 * span → hi ≤ lo + span
+    (text : List ℕ) (w : List Level) (lo hi : ℕ) (l : Level) → l ≡ fresh 0 (run_end Spaces text 0) → length w ≡ span → hi ≤ lo + span
     → Traced text w lo hi (record { count = 0; at = 0; due = false; mode = 0; depth = 0; name = 0; level = l })
 unfolding trail_of Goes run is_stuck
 traced_start text w lo hi l e n m =
@@ -425,7 +425,7 @@ traced_start text w lo hi l e n m =
       reach = m;
     }
 
-pub traced_done : {text w : List ℕ} {lo hi k : ℕ} {t : Trace} → t.count ≡ k → Traced text w lo hi t → Refilled text k w lo hi
+pub traced_done : {text : List ℕ} {w : List Level} {lo hi k : ℕ} {t : Trace} → t.count ≡ k → Traced text w lo hi t → Refilled text k w lo hi
 unfolding Refilled
 traced_done {text} {w} {lo} {hi} {t = t} h c q l ls n e =
     let same : ls ≡ c.around = cc (e, h, c.trails) in

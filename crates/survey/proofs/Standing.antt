@@ -43,13 +43,13 @@ use Rattle.survey.proofs.Taking.{act_stuck, taken_some, taken_whole, run_next, r
 -- ---- the window's levels are those of the trail
 
 pub held :
-    (text w : List ℕ) (k lo hi : ℕ) {q n : ℕ} {l : Level} {ls : List Level} → Refilled text k w lo hi → trail_of text k ≡ trail q l ls n
+    (text : List ℕ) (w : List Level) (k lo hi : ℕ) {q n : ℕ} {l : Level} {ls : List Level} → Refilled text k w lo hi → trail_of text k ≡ trail q l ls n
     → Holds w lo hi ls
 unfolding Refilled
 held text w k lo hi {q} {n} {l} {ls} r e = r q l ls n e
 
 pub refilled :
-    (text w : List ℕ) (k lo hi : ℕ) {q n : ℕ} {l : Level} {ls : List Level} → trail_of text k ≡ trail q l ls n → Holds w lo hi ls
+    (text : List ℕ) (w : List Level) (k lo hi : ℕ) {q n : ℕ} {l : Level} {ls : List Level} → trail_of text k ≡ trail q l ls n → Holds w lo hi ls
     → Refilled text k w lo hi
 unfolding Refilled
 refilled text w k lo hi {ls = ls} e h q' l' ls' n' e' = let same : ls ≡ ls' = cc in subst (Holds w lo hi) same h
@@ -83,7 +83,7 @@ first_small (one h hs) = h
 
 -- ---- where the survey stands
 
-module _ {text list w : List ℕ} {s : W.State} (h : Standing text list w s) where
+module _ {text list : List ℕ} {w : List Level} {s : W.State} (h : Standing text list w s) where
   pub left_of : Left (length text) s.mode s.level h.around s.name
   left_of = trail_is_left text s.count s.mode s.level h.around s.name h.cut.count h.trails
 
@@ -228,7 +228,7 @@ module _ {text list w : List ℕ} {s : W.State} (h : Standing text list w s) whe
         trails_next ∙ trailed_opens text t.kind t.act t.begin t.behind s.mode s.level h.around s.name least most in
         let holds : Holds (stored w s.depth (level_past s t)) low (low + span) (level_past s t ∷ h.around) =
         subst⁻¹ (λ (d : ℕ). Holds (stored w d (level_past s t)) low (low + span) (level_past s t ∷ h.around)) h.deep
-        (holds_opened w s.low low (level_past s t) h.around h.size level_small.rank lowest_fits.1
+        (holds_opened w s.low low (level_past s t) h.around h.size lowest_fits.1
         (omega (arith, h.deep, h.most)) (omega (arith, h.deep, lowest_fits.2)) holds_now) in
         record {
           cut = cut_behind h.cut n class;
@@ -268,7 +268,7 @@ module _ {text list w : List ℕ} {s : W.State} (h : Standing text list w s) whe
           (subst (λ (ls : List Level). T (nested s.level ls)) someone.2 machine.1)
 
       module _
-          {v : List ℕ} {low : ℕ} {outer : Level} (ready : Ready text s.count s.depth low v)
+          {v : List Level} {low : ℕ} {outer : Level} (ready : Ready text s.count s.depth low v)
           (loaded : outer ≡ level_at v (s.depth - 1)) where
         beyond : List Level
         beyond = someone.1

@@ -1,7 +1,7 @@
 -- Where a reading of a text stands behind its first k tokens: the trail of levels, which alone is read again; and with it the survey, the
 -- grammar's machine and the window.
 -- Assumes nothing: these are definitions.
-use Rattle.std.specs.Prelude.{ℕ, zero, suc, ◌+◌, ◌-◌, ◌*◌, ◌≤◌, ◌<◌, ◌≡◌, Bool, true, false, ◌&&◌, ◌||◌, not, cond, List, [], ◌∷◌, T, eqb, ltb, leb, length, get_or, take, Option, None, Some}
+use Rattle.std.specs.Prelude.{ℕ, zero, suc, ◌+◌, ◌-◌, ◌≤◌, ◌<◌, ◌≡◌, Bool, true, false, ◌&&◌, ◌||◌, not, cond, List, [], ◌∷◌, T, eqb, ltb, leb, length, get_or, take, Option, None, Some}
 use Rattle.names.specs.Names.{position}
 use Rattle.text.specs.declared.Fault.{Fault}
 use Rattle.text.specs.declared.Level.{Level}
@@ -105,7 +105,7 @@ Goes text k = is_stuck (run start (take k (classes_of text))) ≡ false
 -- ---- reading again
 
 -- a reading; the window holds the levels from lo to before hi, and the trace's level is right if it is one of those
-pub record Traced (text w : List ℕ) (lo hi : ℕ) (t : Trace) : Type 0 where
+pub record Traced (text : List ℕ) (w : List Level) (lo hi : ℕ) (t : Trace) : Type 0 where
   pub cut : Cut text t.count t.at t.due
   pub goes : Goes text t.count
   pub level : Level
@@ -117,18 +117,18 @@ pub record Traced (text w : List ℕ) (lo hi : ℕ) (t : Trace) : Type 0 where
   pub same : lo ≤ t.depth → t.depth < hi → t.level ≡ level
   pub kind : t.level.kind < 10
   pub rank : t.level.rank < 3
-  pub size : length w ≡ 4 * span
+  pub size : length w ≡ span
   pub reach : hi ≤ lo + span
 
 -- and the next token, which is taken
-pub record Follows (text w : List ℕ) (lo hi : ℕ) (t : Trace) (s : Seen) : Type 0 where
+pub record Follows (text : List ℕ) (w : List Level) (lo hi : ℕ) (t : Trace) (s : Seen) : Type 0 where
   pub traced : Traced text w lo hi t
   pub known : Known text t.at t.due t.mode s
   pub class : s.kind < 33
   pub goes : Goes text (t.count + 1)
 
 -- the window holds the levels from lo to before hi behind k tokens
-unfoldable pub Refilled : List ℕ → ℕ → List ℕ → ℕ → ℕ → Type 0
+unfoldable pub Refilled : List ℕ → ℕ → List Level → ℕ → ℕ → Type 0
 Refilled text k w lo hi = (q : ℕ) (l : Level) (ls : List Level) (n : ℕ) → trail_of text k ≡ trail q l ls n → Holds w lo hi ls
 
 -- ---- what a token does to the survey's state
@@ -267,7 +267,7 @@ abbrev pub survey_of : Source → State → List Level → Survey
 survey_of o s around = survey (get_or modes s.mode operand) s.level around s.sort s.name (urgency_of o s.fault)
 
 -- the reading knows all that the survey does
-pub record Standing (text list w : List ℕ) (s : State) : Type 0 where
+pub record Standing (text list : List ℕ) (w : List Level) (s : State) : Type 0 where
   pub cut : Cut text s.count s.at s.due
   pub goes : Goes text s.count
   pub few : s.count ≤ s.at
@@ -279,34 +279,34 @@ pub record Standing (text list w : List ℕ) (s : State) : Type 0 where
   pub holds : Refilled text s.count w s.low (s.low + span)
   pub least : s.low ≤ s.depth
   pub most : s.depth ≤ s.low + span
-  pub size : length w ≡ 4 * span
+  pub size : length w ≡ span
   pub sounds : T (sound (source text list) s.fault)
 
 -- some levels are open, and the window may have to be filled again for the innermost of those around
-pub record Closing (text : List ℕ) (count depth low : ℕ) (w : List ℕ) : Type 0 where
+pub record Closing (text : List ℕ) (count depth low : ℕ) (w : List Level) : Type 0 where
   pub goes : Goes text count
   pub fits : count ≤ length (tokens text)
   pub holds : Refilled text count w low (low + span)
   pub some : 0 < depth
   pub most : depth ≤ low + span
-  pub size : length w ≡ 4 * span
+  pub size : length w ≡ span
 
 -- the window holds the innermost of the levels around
-pub record Ready (text : List ℕ) (count depth low : ℕ) (w : List ℕ) : Type 0 where
+pub record Ready (text : List ℕ) (count depth low : ℕ) (w : List Level) : Type 0 where
   pub holds : Refilled text count w low (low + span)
   pub least : low < depth
   pub most : depth ≤ low + span
-  pub size : length w ≡ 4 * span
+  pub size : length w ≡ span
 
 -- ---- what the survey finds
 
 -- the survey stands in the text, or it has ended with what is found
-pub record Surveyed (text list w : List ℕ) (s : State) : Type 0 where
+pub record Surveyed (text list : List ℕ) (w : List Level) (s : State) : Type 0 where
   pub goes_on : s.ended ≡ false → Standing text list w s
   pub ends : s.ended ≡ true → s.fault ≡ found (form_of text) text list
-  pub size : length w ≡ 4 * span
+  pub size : length w ≡ span
 
 -- and if it goes on, then behind one token more
-pub record Advanced (text list w : List ℕ) (k : ℕ) (s : State) : Type 0 where
+pub record Advanced (text list : List ℕ) (w : List Level) (k : ℕ) (s : State) : Type 0 where
   pub surveyed : Surveyed text list w s
   pub further : s.ended ≡ false → s.count ≡ k + 1

@@ -6,7 +6,7 @@ ghost use Rattle.survey.specs.Standing.{opened_kind, Goes, Traced, Follows, Refi
 
 use crate::facts::name_of;
 use crate::look::{Seen, look};
-use crate::window::{keep, recall};
+use crate::window::Window;
 use levels::{fresh, group_of, level_in, tightness_of};
 use text::{Level, Run};
 use tokens::{is_due, run_end};
@@ -44,9 +44,9 @@ pub fn opened_mode(act: usize) -> usize
 }
 
 // A token that opens and closes nothing.
-fn go_on(text: &[u8], t: Trace, s: Seen, window: &[usize], lo: usize, hi: usize) -> Trace
-    requires { Follows text.now window.now lo hi t s × (s.act < 15) }
-    ensures { Traced text.now window.now lo hi result × (result.count ≡ t.count + 1) }
+fn go_on(text: &[u8], t: Trace, s: Seen, window: &Window, lo: usize, hi: usize) -> Trace
+    requires { Follows text.now window.now.levels lo hi t s × (s.act < 15) }
+    ensures { Traced text.now window.now.levels lo hi result × (result.count ≡ t.count + 1) }
 {
     let kind = s.kind;
     Trace {
@@ -67,14 +67,14 @@ fn go_on(text: &[u8], t: Trace, s: Seen, window: &[usize], lo: usize, hi: usize)
 }
 
 // A token that opens a level: the one around it is kept, if the window is for it.
-fn open(text: &[u8], t: Trace, s: Seen, window: &mut [usize], lo: usize, hi: usize) -> Trace
-    requires { Follows text.now window.old lo hi t s × (15 ≤ s.act) × (s.act < 18) }
-    ensures { Traced text.now window.new lo hi result × (result.count ≡ t.count + 1) }
+fn open(text: &[u8], t: Trace, s: Seen, window: &mut Window, lo: usize, hi: usize) -> Trace
+    requires { Follows text.now window.old.levels lo hi t s × (15 ≤ s.act) × (s.act < 18) }
+    ensures { Traced text.now window.new.levels lo hi result × (result.count ≡ t.count + 1) }
 {
     let kind = s.kind;
     let behind = s.behind;
     let left = level_in(group_of(kind), tightness_of(kind), t.mode, behind, t.level);
-    keep(window, t.depth, lo, hi, left);
+    window.keep(t.depth, lo, hi, left);
     Trace {
         count: t.count + 1,
         at: s.end,
@@ -87,9 +87,9 @@ fn open(text: &[u8], t: Trace, s: Seen, window: &mut [usize], lo: usize, hi: usi
 }
 
 // `,`, behind which another argument begins.
-fn part(text: &[u8], t: Trace, s: Seen, window: &[usize], lo: usize, hi: usize) -> Trace
-    requires { Follows text.now window.now lo hi t s × (s.act ≡ 20) }
-    ensures { Traced text.now window.now lo hi result × (result.count ≡ t.count + 1) }
+fn part(text: &[u8], t: Trace, s: Seen, window: &Window, lo: usize, hi: usize) -> Trace
+    requires { Follows text.now window.now.levels lo hi t s × (s.act ≡ 20) }
+    ensures { Traced text.now window.now.levels lo hi result × (result.count ≡ t.count + 1) }
 {
     Trace {
         count: t.count + 1,
@@ -102,9 +102,9 @@ fn part(text: &[u8], t: Trace, s: Seen, window: &[usize], lo: usize, hi: usize) 
 }
 
 // A token that closes a level: the one around it is taken up again, if the window is for it.
-fn close(text: &[u8], t: Trace, s: Seen, window: &[usize], lo: usize, hi: usize) -> Trace
-    requires { Follows text.now window.now lo hi t s × (18 ≤ s.act) × (s.act < 20) }
-    ensures { Traced text.now window.now lo hi result × (result.count ≡ t.count + 1) }
+fn close(text: &[u8], t: Trace, s: Seen, window: &Window, lo: usize, hi: usize) -> Trace
+    requires { Follows text.now window.now.levels lo hi t s × (18 ≤ s.act) × (s.act < 20) }
+    ensures { Traced text.now window.now.levels lo hi result × (result.count ≡ t.count + 1) }
 {
     let depth = t.depth - 1;
     Trace {
@@ -113,15 +113,15 @@ fn close(text: &[u8], t: Trace, s: Seen, window: &[usize], lo: usize, hi: usize)
         due: true,
         mode: 13,
         depth,
-        level: recall(window, depth, lo, hi, t.level),
+        level: window.recall(depth, lo, hi, t.level),
         ..t
     }
 }
 
 // One token more, which is known to be taken.
-fn follow(text: &[u8], t: Trace, window: &mut [usize], lo: usize, hi: usize) -> Trace
-    requires { Traced text.now window.old lo hi t × Goes text.now (t.count + 1) × (t.count < length (tokens text.now)) }
-    ensures { Traced text.now window.new lo hi result × (result.count ≡ t.count + 1) }
+fn follow(text: &[u8], t: Trace, window: &mut Window, lo: usize, hi: usize) -> Trace
+    requires { Traced text.now window.old.levels lo hi t × Goes text.now (t.count + 1) × (t.count < length (tokens text.now)) }
+    ensures { Traced text.now window.new.levels lo hi result × (result.count ≡ t.count + 1) }
 {
     let s = look(text, t.at, t.due, t.mode);
     let act = s.act;
@@ -138,9 +138,9 @@ fn follow(text: &[u8], t: Trace, window: &mut [usize], lo: usize, hi: usize) -> 
 }
 
 // Reads the first tokens again, so many as count says: the window then holds the levels from lo to before hi.
-pub fn refill(text: &[u8], count: usize, window: &mut [usize], lo: usize, hi: usize)
-    requires { Goes text.now count × (count ≤ length (tokens text.now)) × (length window.old ≡ 4 * span) × (hi ≤ lo + span) }
-    ensures { (length window.new ≡ 4 * span) × Refilled text.now count window.new lo hi }
+pub fn refill(text: &[u8], count: usize, window: &mut Window, lo: usize, hi: usize)
+    requires { Goes text.now count × (count ≤ length (tokens text.now)) × (hi ≤ lo + span) }
+    ensures { Refilled text.now count window.new.levels lo hi }
 {
     let mut t = Trace {
         count: 0,
@@ -151,7 +151,7 @@ pub fn refill(text: &[u8], count: usize, window: &mut [usize], lo: usize, hi: us
         name: 0,
         level: fresh(0, run_end(Run::Spaces, text, 0)),
     };
-    while t.count < count {
+    for _ in 0..count {
         t = follow(text, t, window, lo, hi);
     }
 }

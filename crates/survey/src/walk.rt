@@ -8,7 +8,7 @@ ghost use Rattle.survey.specs.Standing.{Reads, refusal, level_past, fault_past, 
 use crate::facts::{name_of, own_fault};
 use crate::look::{Seen, look};
 use crate::refill::{opened_kind, opened_mode, refill};
-use crate::window::{SPAN, load, store};
+use crate::window::{SPAN, Window};
 use levels::{
     Read, end_faults, fault_in, fresh, group_of, is_fault_behind, level_in, level_sort, lowered,
     sort_behind, sort_in, tightness_of,
@@ -120,13 +120,13 @@ fn lowest(depth: usize, low: usize) -> usize
 
 // A token that opens a level.
 #[tactic(auto, unfolding(crate::specs::Standing::opened_by))]
-fn entered(s: State, t: Seen, own: Option<u32>, window: &mut [usize]) -> State
-    requires { Opens s t × (length window.old ≡ 4 * span) }
-    ensures { (result ≡ opened_by own s t) × (window.new ≡ stored window.old s.depth (level_past s t)) }
+fn entered(s: State, t: Seen, own: Option<u32>, window: &mut Window) -> State
+    requires { Opens s t }
+    ensures { (result ≡ opened_by own s t) × (window.new.levels ≡ stored window.old.levels s.depth (level_past s t)) }
 {
     let depth = s.depth;
     let fault = fault_behind(s, t, own);
-    store(window, depth, level_behind(s, t));
+    window.store(depth, level_behind(s, t));
     State {
         count: s.count + 1,
         at: t.end,
@@ -163,9 +163,9 @@ fn refill_from(depth: usize) -> usize
 }
 
 // The window holds the level around the innermost one: it is filled again if it ran empty.
-fn ready(text: &[u8], count: usize, depth: usize, low: usize, window: &mut [usize]) -> usize
-    requires { Closing text.now count depth low window.old }
-    ensures { Ready text.now count depth result window.new }
+fn ready(text: &[u8], count: usize, depth: usize, low: usize, window: &mut Window) -> usize
+    requires { Closing text.now count depth low window.old.levels }
+    ensures { Ready text.now count depth result window.new.levels }
 {
     if low < depth {
         return low;
@@ -269,9 +269,9 @@ fn finished(length: usize, s: State) -> State
 }
 
 // One token, or the end of the text.
-fn advanced(text: &[u8], names: &Names, s: State, window: &mut [usize]) -> State
-    requires { Standing text.now names.now.list.now window.old s }
-    ensures { Advanced text.now names.now.list.now window.new s.count result }
+fn advanced(text: &[u8], names: &Names, s: State, window: &mut Window) -> State
+    requires { Standing text.now names.now.list.now window.old.levels s }
+    ensures { Advanced text.now names.now.list.now window.new.levels s.count result }
 {
     let t = look(text, s.at, s.due, s.mode);
     let kind = t.kind;
@@ -292,15 +292,15 @@ fn advanced(text: &[u8], names: &Names, s: State, window: &mut [usize]) -> State
         return entered(s, t, own, window);
     }
     let low = ready(text, s.count, s.depth, s.low, window);
-    let outer = load(window, s.depth - 1);
+    let outer = window.load(s.depth - 1);
     closed(s, t, low, outer)
 }
 
 // What is found in a text: 23 with the byte at which it is refused, or its lowest fault, if it has one.
-pub fn survey_text(text: &[u8], names: &Names, window: &mut [usize]) -> Option<Fault>
-    requires { length window.old ≡ 4 * span }
+pub fn survey_text(text: &[u8], names: &Names) -> Option<Fault>
     ensures { result ≡ found (form_of text.now) text.now names.now.list.now }
 {
+    let mut window = Window::new();
     let mut s = State {
         count: 0,
         at: 0,
@@ -315,7 +315,7 @@ pub fn survey_text(text: &[u8], names: &Names, window: &mut [usize]) -> Option<F
         ended: false,
     };
     while !s.ended {
-        s = advanced(text, names, s, window);
+        s = advanced(text, names, s, &mut window);
     }
     s.fault
 }

@@ -1,76 +1,60 @@
-// Levels in a window of numbers: four for each of 2,048 levels.
-ghost use Rattle.std.specs.Prelude.{◌≡◌, ◌&&◌, cond, ◌*◌, ◌<◌, leb, ltb, length};
-ghost use Rattle.survey.specs.Window.{span, bit, packed, level_at, stored};
+// Levels in bounded memory: those around the innermost one, in a window of 2,048.
+ghost use Rattle.std.specs.Prelude.{◌≡◌, ◌&&◌, cond, leb, ltb, length};
+ghost use Rattle.survey.specs.Window.{span, level_at, stored};
 
+use levels::fresh;
 use text::Level;
 
 // The most levels of a window.
 pub const SPAN: usize = 2048;
 
-fn bit(b: bool) -> usize
-    ensures { result ≡ bit b }
-{
-    if b { 1 } else { 0 }
+// The levels: the one with number i at i % 2048. No library crate has a heap, so the window is of a fixed size.
+#[derive(Drop)]
+pub struct Window {
+    pub levels: [Level; SPAN],
+    ghost size: { length levels ≡ span },
 }
 
-// All of a level but its bytes in one number.
-#[tactic(auto, using(crate::proofs::Stored::bit_small), unfolding(crate::specs::Window::packed))]
-fn packed(l: Level) -> usize
-    requires { (l.kind < 10) × (l.rank < 3) }
-    ensures { result ≡ packed l }
-{
-    let flags = 2 * bit(l.joined) + bit(l.inpath);
-    24 * l.kind + (12 * bit(l.andor) + (4 * l.rank + flags))
-}
-
-#[tactic(auto, unfolding(crate::specs::Window::stored))]
-pub fn store(window: &mut [usize], i: usize, l: Level)
-    requires { (length window.old ≡ 4 * span) × (l.kind < 10) × (l.rank < 3) }
-    ensures { window.new ≡ stored window.old i l }
-{
-    let slot = 4 * (i % SPAN);
-    window[slot] = packed(l);
-    window[slot + 1] = l.e;
-    window[slot + 2] = l.g;
-    window[slot + 3] = l.m;
-}
-
-#[tactic(auto, unfolding(crate::specs::Window::level_at, crate::specs::Window::unpacked))]
-pub fn load(window: &[usize], i: usize) -> Level
-    requires { length window.now ≡ 4 * span }
-    ensures { result ≡ level_at window.now i }
-{
-    let slot = 4 * (i % SPAN);
-    let word = window[slot];
-    Level {
-        kind: word / 24,
-        rank: word / 4 % 3,
-        joined: word / 2 % 2 == 1,
-        inpath: word % 2 == 1,
-        andor: word / 12 % 2 == 1,
-        e: window[slot + 1],
-        g: window[slot + 2],
-        m: window[slot + 3],
+impl Window {
+    // A window that is for no level yet.
+    pub fn new() -> Window {
+        Window {
+            levels: [fresh(0, 0); SPAN],
+        }
     }
-}
 
-// Stores a level, if it is from lo to before hi.
-pub fn keep(window: &mut [usize], i: usize, lo: usize, hi: usize, l: Level)
-    requires { (length window.old ≡ 4 * span) × (l.kind < 10) × (l.rank < 3) }
-    ensures { window.new ≡ cond (leb lo i && ltb i hi) (stored window.old i l) window.old }
-{
-    if lo <= i && i < hi {
-        store(window, i, l);
+    // Stores a level.
+    #[tactic(auto, unfolding(crate::specs::Window::stored))]
+    pub fn store(&mut self, i: usize, l: Level)
+        ensures { self.new.levels ≡ stored self.old.levels i l }
+    {
+        self.levels[i % SPAN] = l;
     }
-}
 
-// The level i, if it is from lo to before hi; else another.
-pub fn recall(window: &[usize], i: usize, lo: usize, hi: usize, other: Level) -> Level
-    requires { length window.now ≡ 4 * span }
-    ensures { result ≡ cond (leb lo i && ltb i hi) (level_at window.now i) other }
-{
-    if lo <= i && i < hi {
-        return load(window, i);
+    // The level that was stored.
+    #[tactic(auto, unfolding(crate::specs::Window::level_at))]
+    pub fn load(&self, i: usize) -> Level
+        ensures { result ≡ level_at self.now.levels i }
+    {
+        self.levels[i % SPAN]
     }
-    other
+
+    // Stores a level, if it is from lo to before hi.
+    pub fn keep(&mut self, i: usize, lo: usize, hi: usize, l: Level)
+        ensures { self.new.levels ≡ cond (leb lo i && ltb i hi) (stored self.old.levels i l) self.old.levels }
+    {
+        if lo <= i && i < hi {
+            self.store(i, l);
+        }
+    }
+
+    // The level i, if it is from lo to before hi; else another.
+    pub fn recall(&self, i: usize, lo: usize, hi: usize, other: Level) -> Level
+        ensures { result ≡ cond (leb lo i && ltb i hi) (level_at self.now.levels i) other }
+    {
+        if lo <= i && i < hi {
+            return self.load(i);
+        }
+        other
+    }
 }

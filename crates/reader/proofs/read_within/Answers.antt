@@ -8,8 +8,8 @@ pub returns-in-Err : goal.returns-in-Err
 returns-in-Err g c = reads_bad_names _ _ _ _ _ c.in-Err.ensures.indexed.0 c.in-Err.ensures.indexed.1
 
 pub read_clean-requires : goal.read_clean-requires
-read_clean-requires g c = nothing_found _ _ (sym c.survey_all.ensures ∙ c.in-None.is)
+read_clean-requires g c = nothing_found _ _ (sym c.survey_text.ensures ∙ c.in-None.is)
 
 pub returns-in-Some : goal.returns-in-Some
 returns-in-Some g c =
-    reads_wrong _ _ _ _ c.in-Some.fault (sym c.survey_all.ensures ∙ c.in-Some.is) c.in_default.ensures.indexed.fine
+    reads_wrong _ _ _ _ c.in-Some.fault (sym c.survey_text.ensures ∙ c.in-Some.is) c.in_default.ensures.indexed.fine

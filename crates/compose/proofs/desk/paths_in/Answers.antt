@@ -18,17 +18,17 @@ loop-i-preserved c =
     let inv = c.loop-i.invariant.1 in
     let ops = c.args.ops.now in
     elim c.if-op-eq22.branch [
-      then-op-eq22 w ↦
-        let path : is_path_op (get_or ops (4 * c.loop-i.i) 0) ≡ true =
-        elim w.then-op-eq22.branch [
-          then-op-eq22-via-then-op-eq22 v ↦ rw (eq-eqb _ 22 v.if-op-eq22.true)
-        | then-op-eq22-via-else-op-eq22+then-op-eq23 v ↦ rw (ne_eqb _ 22 v.if-op-eq22.false, eq-eqb _ 23 v.if-op-eq23.true)
-        ] in
-        (omega arith, λ opens. w.count-is ∙ paths_one ops opens _ _ (inv opens) path)
-    | else-op-eq22+else-op-eq23 w ↦
-        let other : is_path_op (get_or ops (4 * c.loop-i.i) 0) ≡ false =
-        rw (ne_eqb _ 22 w.if-op-eq22.false, ne_eqb _ 23 w.if-op-eq23.false) in
-        (omega arith, λ opens. w.count-is ∙ paths_other ops opens _ _ (inv opens) other)
+      | then-op-eq22 w ↦
+          let path : is_path_op (get_or ops (4 * c.loop-i.i) 0) ≡ true =
+          elim w.then-op-eq22.branch [
+            | then-op-eq22-via-then-op-eq22 v ↦ rw (eq-eqb _ 22 v.if-op-eq22.true)
+            | then-op-eq22-via-else-op-eq22+then-op-eq23 v ↦ rw (ne_eqb _ 22 v.if-op-eq22.false, eq-eqb _ 23 v.if-op-eq23.true)
+          ] in
+          (omega arith, λ opens. w.count-is ∙ paths_one ops opens _ _ (inv opens) path)
+      | else-op-eq22+else-op-eq23 w ↦
+          let other : is_path_op (get_or ops (4 * c.loop-i.i) 0) ≡ false =
+          rw (ne_eqb _ 22 w.if-op-eq22.false, ne_eqb _ 23 w.if-op-eq23.false) in
+          (omega arith, λ opens. w.count-is ∙ paths_other ops opens _ _ (inv opens) other)
     ]
 
 pub returns : goal.returns

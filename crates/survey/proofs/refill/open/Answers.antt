@@ -2,16 +2,8 @@
 -- Assumes nothing.
 use native.Mathlib.Omega.{arith}
 use mathlib.Core.Path.{refl, ◌∙◌}
-use Rattle.survey.proofs.Retrace.{follows_room, call_named, behind_fits, traced_opens}
+use Rattle.survey.proofs.Retrace.{follows_room, call_named, traced_opens}
 use Rattle.survey.proofs.refill.open.Goals as goal
-
-pub keep-requires : goal.keep-requires
-keep-requires c =
-    let fits = behind_fits c.requires.0 in (
-      c.requires.0.traced.size,
-      rw (c.level_in-left.ensures, c.group_of.ensures, c.tightness_of.ensures) fits.0,
-      rw (c.level_in-left.ensures, c.group_of.ensures, c.tightness_of.ensures) fits.1,
-    )
 
 pub overflow_add-result : goal.overflow_add-result
 overflow_add-result c = omega (arith, follows_room c.requires.0)

@@ -2,9 +2,7 @@
 -- v what was seen, and on that it is taken.
 -- Assumes nothing.
 use native.Mathlib.Omega.{arith}
-use mathlib.Core.Path.{◌∙◌, sym, ap}
-use lib.ListN.{length}
-use Rattle.survey.proofs.Stored.{stored_length}
+use mathlib.Core.Path.{◌∙◌, sym}
 use Rattle.survey.proofs.Taking.{taken_some}
 use Rattle.survey.proofs.Standing.{left_of}
 use Rattle.survey.proofs.Advancing.{advanced_ends, advanced_refused, seen_further, seen_reads, seen_opens, seen_closes, seen_bracketed, advanced_goes, advanced_enters, advanced_closes}
@@ -62,10 +60,7 @@ entered-requires c =
     let h = c.requires in
     let v = c.look-t.ensures in
     let on = sym c.is_taken.ensures ∙ c.if-not-is_taken.false in
-    (seen_opens h v on, h.size)
-
-pub shape_of-window-then-act-lt18 : goal.shape_of-window-then-act-lt18
-shape_of-window-then-act-lt18 c = ap length c.entered.ensures.1 ∙ stored_length _ _ _
+    seen_opens h v on
 
 pub returns-then-act-lt18 : goal.returns-then-act-lt18
 returns-then-act-lt18 c =
@@ -86,9 +81,6 @@ ready-low-requires c =
 pub overflow_sub-s : goal.overflow_sub-s
 overflow_sub-s c = omega (arith, c.ready-low.ensures.least)
 
-pub load-outer-requires : goal.load-outer-requires
-load-outer-requires c = c.ready-low.ensures.size
-
 pub closed-requires : goal.closed-requires
 closed-requires c =
     let h = c.requires in
@@ -98,11 +90,6 @@ closed-requires c =
       seen_further h v on,
       omega (arith, c.ready-low.ensures.least),
     )
-
-pub shape_of-window : goal.shape_of-window
-shape_of-window c =
-    c.ready-low.ensures.size
-    ∙ sym c.requires.size
 
 pub returns : goal.returns
 returns c =

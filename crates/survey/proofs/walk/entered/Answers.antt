@@ -4,14 +4,9 @@ use mathlib.Core.Path.{◌∙◌}
 use Rattle.survey.specs.Standing.{opened_by, Called}
 use Rattle.survey.proofs.walk.entered.Goals as goal
 
-pub store-requires : goal.store-requires
-store-requires c =
-    let pre = c.requires in
-    (pre.1, rw c.level_behind.ensures pre.0.kind, rw c.level_behind.ensures pre.0.rank)
-
 pub opened_kind-requires : goal.opened_kind-requires
 unfolding Called
-opened_kind-requires c = c.requires.0.called
+opened_kind-requires c = c.requires.called
 
 pub returns : goal.returns
 unfolding opened_by

@@ -1,7 +1,6 @@
 -- `survey::walk::ready` meets its contract: the window is as it was, or it was filled again from the lowest level that it has room for.
 -- Assumes nothing.
 use native.Mathlib.Omega.{arith}
-use mathlib.Core.Path.{◌∙◌, sym}
 use Rattle.survey.proofs.walk.ready.Goals as goal
 
 pub returns-then-low-depth : goal.returns-then-low-depth
@@ -16,17 +15,14 @@ pub overflow_add-from : goal.overflow_add-from
 overflow_add-from c = omega (arith, c.refill_from-from.ensures)
 
 pub refill-requires : goal.refill-requires
-refill-requires c = let pre = c.requires in (pre.goes, pre.fits, pre.size, omega arith)
-
-pub shape_of-window : goal.shape_of-window
-shape_of-window c = c.refill.ensures.0 ∙ sym c.requires.size
+refill-requires c = let pre = c.requires in (pre.goes, pre.fits, omega arith)
 
 pub returns : goal.returns
 returns c =
     let from = c.refill_from-from.ensures in
     record {
-      holds = c.refill.ensures.1;
+      holds = c.refill.ensures;
       least = omega (arith, from, c.requires.some);
       most = omega (arith, from);
-      size = c.refill.ensures.0;
+      size = c.refill.new.window.size;
     }

@@ -1,5 +1,4 @@
 -- The answers of `survey::walk::survey_text`: what its code leaves to show, by the invariants beside this file. Assumes nothing.
-use mathlib.Core.Path.{◌∙◌, sym}
 use native.Mathlib.Omega.{arith}
 use Rattle.survey.proofs.Advancing.{not_so, is_so, surveyed_start, advanced_less}
 use Rattle.survey.proofs.walk.survey_text.Goals as goal
@@ -11,7 +10,7 @@ pub fresh-requires : goal.fresh-requires
 fresh-requires c = tt
 
 pub loop-s-init : goal.loop-s-init
-loop-s-init c = surveyed_start _ _ _ c.requires _ (cc)
+loop-s-init c = surveyed_start _ _ _ c.new-window.result.size _ (cc)
 
 pub advanced-s-requires : goal.advanced-s-requires
 advanced-s-requires c =
@@ -25,11 +24,6 @@ loop-s-smaller c =
 
 pub loop-s-preserved : goal.loop-s-preserved
 loop-s-preserved c = c.advanced-s.ensures.surveyed
-
-pub shape_of-window : goal.shape_of-window
-shape_of-window c =
-    c.loop-s.invariant.size
-    ∙ sym c.requires
 
 pub returns : goal.returns
 returns c = c.loop-s.invariant.ends (is_so _ c.loop-s-test.false)

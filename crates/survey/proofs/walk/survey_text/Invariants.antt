@@ -6,7 +6,7 @@ use Rattle.survey.proofs.Advancing.{steps_left}
 use Rattle.survey.proofs.walk.survey_text.Given as goal
 
 abbrev pub invariant-loop-s : goal.invariant-loop-s
-invariant-loop-s l = Surveyed l.text l.names.list.now l.window l.s
+invariant-loop-s l = Surveyed l.text l.names.list.now l.window.levels l.s
 
 abbrev pub decreases-loop-s : goal.decreases-loop-s
 decreases-loop-s l = steps_left l.text l.s
