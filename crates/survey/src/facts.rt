@@ -7,12 +7,30 @@ ghost use Rattle.survey.specs.Standing.{name_at, Reads};
 
 use literals::digit_count;
 use names::Names;
-use tokens::{axis_number, function_number, has_prefix, is_star};
+use tokens::{Class, axis_number, function_number, has_prefix, is_star};
+
+// Classes of tokens with a fault of their own, or with a name for the `(` behind them; by their numbers, as in the machine's table.
+const NAME_TEST: usize = Class::NameTest as usize;
+
+const INSTRUCTION: usize = Class::Instruction as usize;
+
+const FUNCTION_NAME: usize = Class::FunctionName as usize;
+
+const AXIS_NAME: usize = Class::AxisName as usize;
+
+const NUMBER: usize = Class::Number as usize;
+
+const VARIABLE: usize = Class::Variable as usize;
 
 // The faults of names: one with a prefix, one that is not in the list.
 const PREFIXED: u32 = 26;
 
 const UNKNOWN: u32 = 24;
+
+// Those of numbers with more than 15 digits, and of what is not held: variables, and axes from the 12th on.
+const LONG: u32 = 25;
+
+const UNHELD: u32 = 26;
 
 // The fault of a name, if it is not `*`.
 fn name_fault(text: &[u8], names: &Names, begin: usize, end: usize) -> Option<u32>
@@ -36,22 +54,25 @@ pub fn own_fault(text: &[u8], names: &Names, kind: usize, begin: usize, end: usi
     requires { Reads text.now kind begin end }
     ensures { result ≡ own_of (source text.now names.now.list.now) kind begin }
 {
-    if kind == 9 {
-        return name_fault(text, names, begin, end);
-    }
-    if kind == 13 {
-        if axis_number(text, begin, end) <= 11 {
-            return None;
+    match kind {
+        NAME_TEST => name_fault(text, names, begin, end),
+        AXIS_NAME => {
+            if 11 < axis_number(text, begin, end) {
+                Some(UNHELD)
+            } else {
+                None
+            }
         }
-        return Some(26);
-    }
-    if kind == 15 {
-        if 15 < digit_count(text, begin, end) {
-            return Some(25);
+        NUMBER => {
+            if 15 < digit_count(text, begin, end) {
+                Some(LONG)
+            } else {
+                None
+            }
         }
-        return None;
+        VARIABLE => Some(UNHELD),
+        _ => None,
     }
-    if kind == 16 { Some(26) } else { None }
 }
 
 // What the last name before a `(` was: a processing-instruction's byte, or a function's number.
@@ -59,11 +80,9 @@ pub fn name_of(text: &[u8], kind: usize, begin: usize, end: usize, name: usize) 
     requires { Reads text.now kind begin end }
     ensures { result ≡ name_at text.now kind begin name }
 {
-    if kind == 11 {
-        return begin;
+    match kind {
+        INSTRUCTION => begin,
+        FUNCTION_NAME => function_number(text, begin, end),
+        _ => name,
     }
-    if kind == 12 {
-        return function_number(text, begin, end);
-    }
-    name
 }

@@ -1,24 +1,23 @@
--- `survey::facts::name_of` meets its contract: each answer by the tests that led there; a function's name is the whole token.
--- Assumes nothing.
-use mathlib.Core.Path.{◌∙◌}
-use borrow.Author.Tests.{eq-eqb, ne_eqb}
+-- The answers of `survey::facts::name_of`: a function's name is the whole token.
+use Rattle.std.proofs.Common.{◌∙◌, arith}
+use borrow.Author.Tests.{ne_eqb}
 use Rattle.survey.specs.Standing.{name_at}
 use Rattle.survey.proofs.Words.{reads_within, function_word}
 use Rattle.survey.proofs.facts.name_of.Goals as goal
 
-pub returns-then-kind-eq11 : goal.returns-then-kind-eq11
+pub returns-in-11 : goal.returns-in-11
 unfolding name_at
-returns-then-kind-eq11 c = rw (eq-eqb _ _ c.if-kind-eq11.true)
+returns-in-11 c = rw c.in-11.is
 
 pub function_number-requires : goal.function_number-requires
 function_number-requires c = reads_within c.requires
 
-pub returns-then-kind-eq12 : goal.returns-then-kind-eq12
+pub returns-in-12 : goal.returns-in-12
 unfolding name_at
-returns-then-kind-eq12 c =
-    c.function_number.ensures
-    ∙ rw (ne_eqb _ _ c.if-kind-eq11.false, eq-eqb _ _ c.if-kind-eq12.true, function_word c.requires c.if-kind-eq12.true)
+returns-in-12 c = c.function_number.ensures ∙ rw (c.in-12.is, function_word c.requires c.in-12.is)
 
-pub returns : goal.returns
+pub returns-in_default : goal.returns-in_default
 unfolding name_at
-returns c = rw (ne_eqb _ _ c.if-kind-eq11.false, ne_eqb _ _ c.if-kind-eq12.false)
+returns-in_default c =
+    let k = c.args.kind in
+    rw (ne_eqb k 11 (λ z. omega (arith, z)), ne_eqb k 12 (λ z. omega (arith, z)))

@@ -1,33 +1,31 @@
--- `survey::facts::own_fault` meets its contract: each answer by the tests that led there; the token is its whole name, or its whole number.
--- Assumes nothing.
-use mathlib.Core.Path.{◌∙◌}
-use borrow.Author.Tests.{eq-eqb, ne_eqb, le-leb, lt-leb, lt-ltb, le-ltb}
+-- The answers of `survey::facts::own_fault`: the token is its whole name, or its whole number.
+use Rattle.std.proofs.Common.{◌∙◌, arith}
+use borrow.Author.Tests.{ne_eqb, le-leb, lt-leb, lt-ltb, le-ltb}
 use Rattle.levels.specs.Levels.{own_of}
 use Rattle.text.specs.Limited.{source, holds_axis}
 use Rattle.survey.proofs.Words.{reads_as, reads_within, axis_word, number_bytes}
 use Rattle.survey.proofs.facts.own_fault.Goals as goal
 
 pub name_fault-requires : goal.name_fault-requires
-name_fault-requires c = reads_as c.if-kind-eq9.true c.requires
+name_fault-requires c = reads_as c.in-9.is c.requires
 
-pub returns-then-kind-eq9 : goal.returns-then-kind-eq9
-unfolding own_of source
-returns-then-kind-eq9 c = c.name_fault.ensures ∙ rw c.if-kind-eq9.true
+pub returns-in-9 : goal.returns-in-9
+returns-in-9 c = c.name_fault.ensures ∙ rw c.in-9.is
 
 pub axis_number-requires : goal.axis_number-requires
 axis_number-requires c = reads_within c.requires
 
-pub returns-then-axis_number-le11 : goal.returns-then-axis_number-le11
+pub returns-then-axis_number-gt11 : goal.returns-then-axis_number-gt11
 unfolding own_of source holds_axis
-returns-then-axis_number-le11 c =
-    let word = axis_word c.requires c.if-kind-eq13.true in
-    rw (ne_eqb _ _ c.if-kind-eq9.false, eq-eqb _ _ c.if-kind-eq13.true, ← word, ← c.axis_number.ensures, le-leb _ _ c.if-axis_number-le11.true)
+returns-then-axis_number-gt11 c =
+    let word = axis_word c.requires c.in-13.is in
+    rw (c.in-13.is, ← word, ← c.axis_number.ensures, lt-leb _ _ c.if-axis_number-gt11.true)
 
-pub returns-then-kind-eq13 : goal.returns-then-kind-eq13
+pub returns-else-axis_number-gt11 : goal.returns-else-axis_number-gt11
 unfolding own_of source holds_axis
-returns-then-kind-eq13 c =
-    let word = axis_word c.requires c.if-kind-eq13.true in
-    rw (ne_eqb _ _ c.if-kind-eq9.false, eq-eqb _ _ c.if-kind-eq13.true, ← word, ← c.axis_number.ensures, lt-leb _ _ c.if-axis_number-le11.false)
+returns-else-axis_number-gt11 c =
+    let word = axis_word c.requires c.in-13.is in
+    rw (c.in-13.is, ← word, ← c.axis_number.ensures, le-leb _ _ c.if-axis_number-gt11.false)
 
 pub digit_count-requires : goal.digit_count-requires
 digit_count-requires c = reads_within c.requires
@@ -35,19 +33,21 @@ digit_count-requires c = reads_within c.requires
 pub returns-then-digit_count-gt15 : goal.returns-then-digit_count-gt15
 unfolding own_of source
 returns-then-digit_count-gt15 c =
-    let bytes = number_bytes c.requires c.if-kind-eq15.true in
-    rw (ne_eqb _ _ c.if-kind-eq9.false, ne_eqb _ _ c.if-kind-eq13.false, eq-eqb _ _ c.if-kind-eq15.true, ← bytes, ← c.digit_count.ensures, lt-ltb _ _ c.if-digit_count-gt15.true)
+    let bytes = number_bytes c.requires c.in-15.is in
+    rw (c.in-15.is, ← bytes, ← c.digit_count.ensures, lt-ltb _ _ c.if-digit_count-gt15.true)
 
-pub returns-then-kind-eq15 : goal.returns-then-kind-eq15
+pub returns-else-digit_count-gt15 : goal.returns-else-digit_count-gt15
 unfolding own_of source
-returns-then-kind-eq15 c =
-    let bytes = number_bytes c.requires c.if-kind-eq15.true in
-    rw (ne_eqb _ _ c.if-kind-eq9.false, ne_eqb _ _ c.if-kind-eq13.false, eq-eqb _ _ c.if-kind-eq15.true, ← bytes, ← c.digit_count.ensures, le-ltb _ _ c.if-digit_count-gt15.false)
+returns-else-digit_count-gt15 c =
+    let bytes = number_bytes c.requires c.in-15.is in
+    rw (c.in-15.is, ← bytes, ← c.digit_count.ensures, le-ltb _ _ c.if-digit_count-gt15.false)
 
-pub returns-then-kind-eq16 : goal.returns-then-kind-eq16
+pub returns-in-16 : goal.returns-in-16
 unfolding own_of source
-returns-then-kind-eq16 c = rw (ne_eqb _ _ c.if-kind-eq9.false, ne_eqb _ _ c.if-kind-eq13.false, ne_eqb _ _ c.if-kind-eq15.false, eq-eqb _ _ c.if-kind-eq16.true)
+returns-in-16 c = rw c.in-16.is
 
-pub returns-else-kind-eq16 : goal.returns-else-kind-eq16
+pub returns-in_default : goal.returns-in_default
 unfolding own_of source
-returns-else-kind-eq16 c = rw (ne_eqb _ _ c.if-kind-eq9.false, ne_eqb _ _ c.if-kind-eq13.false, ne_eqb _ _ c.if-kind-eq15.false, ne_eqb _ _ c.if-kind-eq16.false)
+returns-in_default c =
+    let k = c.args.kind in
+    rw (ne_eqb k 9 (λ z. omega (arith, z)), ne_eqb k 13 (λ z. omega (arith, z)), ne_eqb k 15 (λ z. omega (arith, z)), ne_eqb k 16 (λ z. omega (arith, z)))
