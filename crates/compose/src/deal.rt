@@ -10,6 +10,7 @@ use crate::Bench;
 use crate::desk::{
     close_round, close_square, open_group, open_truth, push_frame, settle_frames, strength,
 };
+use crate::kinds::{CLOSING, CLOSING_SQUARE, FUNCTION_NAME, MINUS, OPENING, OPENING_SQUARE, PLUS};
 use crate::mode::{is_beginning, is_ending, is_signing};
 use crate::pen::{made_truth, write_row};
 use text::Sort;
@@ -149,7 +150,7 @@ fn operation_of(kind: usize) -> u32
     requires { (20 ≤ kind) × (kind < 33) }
     ensures { result ≡ code (operation (class_of kind)) }
 {
-    OPERATIONS[kind - 20]
+    OPERATIONS[kind - PLUS]
 }
 
 // A token of this class, with its number.
@@ -167,21 +168,21 @@ pub fn desk_token(
     ensures { Dealt kind number mode bench rows.old ops.old opens.old result rows.new ops.new
         opens.new }
 {
-    if kind == 21 {
+    if kind == MINUS {
         return minus_token(mode, bench, rows, ops, opens);
     }
-    if 20 <= kind {
+    if PLUS <= kind {
         return operator_token(operation_of(kind), bench, rows, ops, opens);
     }
     match kind {
-        0 => {
+        OPENING => {
             open_token(mode, bench.height, opens);
             bench
         }
-        1 => close_token(mode, bench, rows, ops, opens),
-        2 => push_frame(bench, ops, opens, 25, 0, 0),
-        3 => square_token(bench, rows, ops, opens),
-        12 => call_token(number, bench, rows, ops, opens),
+        CLOSING => close_token(mode, bench, rows, ops, opens),
+        OPENING_SQUARE => push_frame(bench, ops, opens, 25, 0, 0),
+        CLOSING_SQUARE => square_token(bench, rows, ops, opens),
+        FUNCTION_NAME => call_token(number, bench, rows, ops, opens),
         _ => bench,
     }
 }

@@ -5,6 +5,7 @@
 
 mod deal;
 mod desk;
+mod kinds;
 mod mode;
 mod pass;
 mod pen;

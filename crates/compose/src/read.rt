@@ -8,6 +8,9 @@ ghost use Rattle.compose.specs.Deals.{Roomy, of_desk};
 
 use crate::State;
 use crate::deal::desk_token;
+use crate::kinds::{
+    BAR, CLOSING_SQUARE, COLONS, COMMA, FUNCTION_NAME, LITERAL, NUMBER, OPENING, SLASH, VARIABLE,
+};
 use crate::mode::next_mode;
 use crate::steps::{moved_to, number_token, slash_token, step_token};
 
@@ -16,7 +19,10 @@ use crate::steps::{moved_to, number_token, slash_token, step_token};
 fn is_desk(kind: usize) -> bool
     ensures { result ≡ of_desk kind }
 {
-    matches!(kind, 0..=3 | 7 | 8 | 12 | 14 | 16 | 19..)
+    matches!(
+        kind,
+        OPENING..=CLOSING_SQUARE | COMMA | COLONS | FUNCTION_NAME | LITERAL | VARIABLE | BAR..
+    )
 }
 
 // The state behind a token of this class.
@@ -42,10 +48,10 @@ pub fn read_token(
         let done = desk_token(kind, number, state.mode, bench, rows, ops, opens);
         return moved_to(state, mode, done);
     }
-    if kind == 15 {
+    if kind == NUMBER {
         return number_token(state, mode, value, rows, values);
     }
-    if 17 <= kind {
+    if SLASH <= kind {
         return slash_token(kind, mode, state, rows, ops, opens);
     }
     step_token(kind, number, mode, state, rows, ops, opens)

@@ -9,6 +9,7 @@ ghost use Rattle.compose.specs.Standing.{mode_of, row_room, op_room, open_room, 
 ghost use Rattle.compose.specs.Deals.{Roomy, of_step};
 
 use crate::desk::{paths_in, push_frame, settle_frames};
+use crate::kinds::{AT, AXIS_NAME, DOT, DOTS, SLASHES};
 use crate::mode::is_beginning;
 use crate::pen::write_row;
 use crate::{Bench, State};
@@ -119,10 +120,10 @@ pub fn step_token(
 {
     let begun = path_from(state, ops, opens, 22);
     match kind {
-        4 => point_token(begun, mode, 0, rows),
-        5 => point_token(begun, mode, 2, rows),
-        6 => axis_token(begun, mode, number),
-        13 => axis_token(begun, mode, number),
+        DOT => point_token(begun, mode, 0, rows),
+        DOTS => point_token(begun, mode, 2, rows),
+        AT => axis_token(begun, mode, number),
+        AXIS_NAME => axis_token(begun, mode, number),
         _ => test_token(begun, mode, number, ops, opens),
     }
 }
@@ -144,7 +145,7 @@ pub fn slash_token(
 {
     let begun = path_from(state, ops, opens, 23);
     let ended = step_ended(begun, rows, ops, opens);
-    if kind == 18 {
+    if kind == SLASHES {
         return point_token(ended, mode, 5, rows);
     }
     let bench = ended.bench;

@@ -6,6 +6,7 @@ ghost use Rattle.text.specs.Limited.{source, place, is_star, value_at};
 ghost use Rattle.compose.specs.Standing.{word_number};
 ghost use Rattle.compose.specs.Words.{Spelled};
 
+use crate::kinds::{AT, AXIS_NAME, FUNCTION_NAME, INSTRUCTION, NAME_TEST, NODE_TYPE, NUMBER};
 use names::Names;
 use tokens::{axis_number, function_number, is_star, type_number};
 
@@ -29,12 +30,12 @@ pub fn word_number(text: &[u8], names: &Names, kind: usize, begin: usize, end: u
         → result ≡ word_number (source text.now names.now.list.now) i kind }
 {
     match kind {
-        6 => 11,
-        9 => name_number(text, names, begin, end),
-        10 => type_number(text, begin, end) as u32,
-        11 => 4,
-        12 => function_number(text, begin, end) as u32,
-        13 => axis_number(text, begin, end) as u32,
+        AT => 11,
+        NAME_TEST => name_number(text, names, begin, end),
+        NODE_TYPE => type_number(text, begin, end) as u32,
+        INSTRUCTION => 4,
+        FUNCTION_NAME => function_number(text, begin, end) as u32,
+        AXIS_NAME => axis_number(text, begin, end) as u32,
         _ => 0,
     }
 }
@@ -44,7 +45,7 @@ pub fn number_value(text: &[u8], names: &Names, kind: usize, begin: usize, end: 
     requires { Spelled text.now names.now.list.now kind begin end }
     ensures { kind ≡ 15 → result ≡ value_at text.now begin }
 {
-    if kind == 15 {
+    if kind == NUMBER {
         return literals::value(text, begin, end);
     }
     0.0

@@ -15,7 +15,7 @@ use levels::{
 };
 use names::Names;
 use text::{Fault, Level, Run, Sort};
-use tokens::{is_due, run_end};
+use tokens::{END, is_due, run_end};
 
 // Where the survey stands: a trace, the lowest level that the window is for, the sort of the operand in progress and the fault that was
 // found; at its end the fault is what was found in all.
@@ -275,7 +275,7 @@ fn advanced(text: &[u8], names: &Names, s: State, window: &mut Window) -> State
 {
     let t = look(text, s.at, s.due, s.mode);
     let kind = t.kind;
-    if kind == 34 {
+    if kind == END {
         return finished(text.len(), s);
     }
     let act = t.act;

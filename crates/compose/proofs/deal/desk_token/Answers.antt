@@ -9,22 +9,22 @@ use Rattle.compose.proofs.Deals.{worked_kept, opened_desk}
 use Rattle.compose.proofs.Classes.{dealt, as_opening, as_closing, as_bracket, as_square, as_call, as_minus, as_moved, moved_kind, as_operator}
 use Rattle.compose.proofs.deal.desk_token.Goals as goal
 
-pub returns-then-kind-eq21 : goal.returns-then-kind-eq21
-returns-then-kind-eq21 c =
+pub returns-then-kind-eq-MINUS : goal.returns-then-kind-eq-MINUS
+returns-then-kind-eq-MINUS c =
     let g = c.args in
     dealt g.kind g.number g.mode c.minus_token.ensures (omega arith)
     (as_minus g.kind g.number g.mode
-    c.if-kind-eq21.true)
+    c.if-kind-eq-MINUS.true)
 
-pub returns-then-kind-ge20 : goal.returns-then-kind-ge20
-returns-then-kind-ge20 c =
+pub returns-then-kind-ge-PLUS : goal.returns-then-kind-ge-PLUS
+returns-then-kind-ge-PLUS c =
     let g = c.args in
     let op = c.operation_of.ensures in
     dealt g.kind g.number g.mode c.operator_token.ensures (omega arith)
     (λ d. subst (λ (n : ℕ). Deals g.kind g.number g.mode d (operated n d)) (sym op)
     (as_operator g.kind g.number g.mode
-    c.if-kind-ge20.true (omega arith)
-    c.if-kind-eq21.false d))
+    c.if-kind-ge-PLUS.true (omega arith)
+    c.if-kind-eq-MINUS.false d))
 
 pub returns-in-0 : goal.returns-in-0
 returns-in-0 c =
@@ -64,5 +64,5 @@ returns-in_default c =
     let rest = c.in_default.in_default-own.rest in
     dealt g.kind g.number g.mode (worked_kept g.bench g.rows.now g.ops.now g.opens.now) (omega arith)
     (as_moved g.kind g.number g.mode
-    (moved_kind g.kind c.requires.2 c.if-kind-ge20.false rest.0.0.0.0.1
+    (moved_kind g.kind c.requires.2 c.if-kind-ge-PLUS.false rest.0.0.0.0.1
     rest.0.0.0.1 rest.0.0.1 rest.0.1 rest.1))

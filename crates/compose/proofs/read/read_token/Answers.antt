@@ -29,8 +29,8 @@ returns-then-is_desk c =
     rw c.moved_to.ensures
     (c.next_mode-mode.ensures.0, λ s i n v. dealt_read g.state g.rows.now g.ops.now g.opens.now g.values.now s i g.kind _ c.next_mode-mode.ensures.1 _ n c.desk_token-done.ensures)
 
-pub returns-then-kind-eq15 : goal.returns-then-kind-eq15
-returns-then-kind-eq15 c =
+pub returns-then-kind-eq-NUMBER : goal.returns-then-kind-eq-NUMBER
+returns-then-kind-eq-NUMBER c =
     let g = c.args in
     let told = c.number_token.ensures in
     let known = c.next_mode-mode.ensures in (
@@ -39,15 +39,15 @@ returns-then-kind-eq15 c =
           read_as _ 4 (told.1 g.ops.now g.opens.now)
           (as_number g.state g.rows.now g.ops.now g.opens.now g.values.now s i g.kind
           c.next_mode-mode.result known.1 g.value
-          (v c.if-kind-eq15.true)
-          c.if-kind-eq15.true) (omega arith),
+          (v c.if-kind-eq-NUMBER.true)
+          c.if-kind-eq-NUMBER.true) (omega arith),
     )
 
 pub slash_token-requires : goal.slash_token-requires
 slash_token-requires c = (
   c.requires.1,
   c.next_mode-mode.ensures.1,
-  c.if-kind-ge17.true,
+  c.if-kind-ge-SLASH.true,
   slash_kind
       c.args.kind
       (sym c.is_desk.ensures ∙ c.if-is_desk.false),
@@ -60,8 +60,8 @@ slash_token-requires c = (
   },
 )
 
-pub returns-then-kind-ge17 : goal.returns-then-kind-ge17
-returns-then-kind-ge17 c =
+pub returns-then-kind-ge-SLASH : goal.returns-then-kind-ge-SLASH
+returns-then-kind-ge-SLASH c =
     let g = c.args in
     let told = c.slash_token.ensures in
     let known = c.next_mode-mode.ensures in
@@ -74,7 +74,7 @@ step_token-requires c = (
   step_kind
       c.args.kind
       (sym c.is_desk.ensures ∙ c.if-is_desk.false)
-      c.if-kind-eq15.false c.if-kind-ge17.false,
+      c.if-kind-eq-NUMBER.false c.if-kind-ge-SLASH.false,
   record {
     light = omega
         (arith, c.requires.2.light);

@@ -19,15 +19,15 @@ point_token-requires c =
     let ended = (c.step_ended-ended.ensures []).most in
     (omega (arith, begun, ended), search rules)
 
-pub returns-then-kind-eq18 : goal.returns-then-kind-eq18
-returns-then-kind-eq18 c =
+pub returns-then-kind-eq-SLASHES : goal.returns-then-kind-eq-SLASHES
+returns-then-kind-eq-SLASHES c =
     let g = c.args in (
       c.point_token.ensures.0,
       λ values s i.
           read_as _ 4 (read_then
           (read_then (c.path_from-begun.ensures.1 g.rows.now values) (c.step_ended-ended.ensures values)) (c.point_token.ensures.1 _ _ values))
           (as_slashes g.state g.rows.now g.ops.now g.opens.now values s i g.kind g.mode
-          c.requires.1 c.if-kind-eq18.true) (omega arith),
+          c.requires.1 c.if-kind-eq-SLASHES.true) (omega arith),
     )
 
 pub returns : goal.returns
@@ -39,5 +39,5 @@ returns c =
           read_as _ 4 (read_then
           (read_then (c.path_from-begun.ensures.1 g.rows.now values) (c.step_ended-ended.ensures values)) (mode_set c.step_ended-ended.result _ _ _ values g.mode))
           (as_slash g.state g.rows.now g.ops.now g.opens.now values s i g.kind g.mode
-          c.requires.1 (omega (arith, c.requires.2, c.requires.3, c.if-kind-eq18.false))) (omega arith),
+          c.requires.1 (omega (arith, c.requires.2, c.requires.3, c.if-kind-eq-SLASHES.false))) (omega arith),
     )

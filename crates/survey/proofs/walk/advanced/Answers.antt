@@ -14,11 +14,11 @@ look-t-requires c = let h = c.requires in (h.cut.within, (left_of h).mode)
 pub finished-requires : goal.finished-requires
 finished-requires c = tt
 
-pub returns-then-kind-eq34 : goal.returns-then-kind-eq34
-returns-then-kind-eq34 c =
+pub returns-then-kind-eq-END : goal.returns-then-kind-eq-END
+returns-then-kind-eq-END c =
     let h = c.requires in
     let v = c.look-t.ensures in
-    advanced_ends h v c.finished.result c.if-kind-eq34.true c.finished.ensures
+    advanced_ends h v c.finished.result c.if-kind-eq-END.true c.finished.ensures
 
 pub is_taken-requires : goal.is_taken-requires
 is_taken-requires c = tt
@@ -30,7 +30,7 @@ pub returns-then-not-is_taken : goal.returns-then-not-is_taken
 returns-then-not-is_taken c =
     let h = c.requires in
     let v = c.look-t.ensures in
-    advanced_refused h v c.refused.result c.if-kind-eq34.false
+    advanced_refused h v c.refused.result c.if-kind-eq-END.false
     (sym c.is_taken.ensures ∙ c.if-not-is_taken.true) c.refused.ensures
 
 pub own_fault-own-requires : goal.own_fault-own-requires
