@@ -4,6 +4,7 @@
 use Rattle.std.specs.Prelude.{ℕ, ◌-◌, Bool, true, false, ◌&&◌, ◌||◌, not, cond, List, [], ◌∷◌, length, get_or, eqb, ltb, leb, Option, None, Some}
 use Rattle.levels.specs.declared.Group.{Group}
 use Rattle.levels.specs.declared.Group.TheVariants.{Other, StepToken, Operand, Slash, Bar, Operator, Quoted, Round, Square}
+use Rattle.levels.specs.declared.Read.{Read}
 use Rattle.text.specs.declared.Fault.{Fault}
 use Rattle.text.specs.declared.Level.{Level}
 use Rattle.text.specs.declared.Sort.{Sort}
@@ -43,6 +44,10 @@ tightnesses = 5 ∷ 5 ∷ 3 ∷ 3 ∷ 4 ∷ 4 ∷ 4 ∷ 4 ∷ 6 ∷ 2 ∷ 1 ∷ 
 -- how strongly the operator of class k binds; 0 for what is none
 unfoldable pub tightness_of : ℕ → ℕ
 tightness_of k = cond (ltb k 20) 0 (get_or tightnesses (k - 20) 0)
+
+-- a token of class k in the mode m, as the code has it
+abbrev pub read_in : ℕ → ℕ → Read
+read_in k m = record { group = group_of k; kind = k; tight = tightness_of k; mode = m }
 
 -- ---- levels
 

@@ -4,7 +4,7 @@
 ghost use Rattle.std.specs.Prelude.{◌≡◌, ◌&&◌, ◌||◌, not, cond, ◌<◌, T, eqb, leb};
 ghost use Rattle.text.specs.Limited.{holds_call, result_of, is_path, number_taken, path_taken};
 ghost use Rattle.text.specs.Survey.{fresh, wants_path, bare, member_sort, level_sort, path_begun, other_begun, joined_on, union_at, operated, operator_faults, sign_faults, end_faults, function_at, sort_behind, fault_behind};
-ghost use Rattle.levels.specs.Levels.{group_of, tightness_of, ranked, stepped, slashed, grouped, bracketed, quoted, level_in, sort_in, sooner, lowered, with_own, fault_in, is_due, takes_sign, goes_on};
+ghost use Rattle.levels.specs.Levels.{group_of, tightness_of, read_in, ranked, stepped, slashed, grouped, bracketed, quoted, level_in, sort_in, sooner, lowered, with_own, fault_in, is_due, takes_sign, goes_on};
 
 use text::{Fault, Function, Level, Sort};
 
@@ -284,38 +284,6 @@ pub fn tightness_of(k: usize) -> usize
     TIGHTNESSES.get(k - 20).copied().unwrap_or(0)
 }
 
-// The level behind a token of a group, with an operator's tightness; what follows it begins at p.
-#[tactic(auto, unfolding(crate::specs::Levels::level_in))]
-pub fn level_in(group: Group, tight: usize, mode: usize, p: usize, l: Level) -> Level
-    ensures { result ≡ level_in group tight mode p l }
-{
-    match group {
-        Group::Other => l,
-        Group::StepToken => stepped(mode, l),
-        Group::Operand => other_begun(l),
-        Group::Slash => slashed(mode, l),
-        Group::Bar => union_at(p, l),
-        Group::Operator => operated(tight, p, l),
-        Group::Quoted => quoted(mode, l),
-        Group::Round => grouped(mode, l),
-        Group::Square => bracketed(l),
-    }
-}
-
-// The sort of the operand in progress behind a token of class k.
-#[tactic(auto, unfolding(crate::specs::Levels::sort_in))]
-pub fn sort_in(group: Group, k: usize, mode: usize, v: Sort) -> Sort
-    ensures { result ≡ sort_in group k mode v }
-{
-    match group {
-        Group::StepToken | Group::Slash if mode < 3 => Sort::Nodes,
-        Group::Operand if k == 15 => Sort::Numeral,
-        Group::Operand => Sort::Unheld,
-        Group::Quoted if mode != 10 => Sort::Unheld,
-        _ => v,
-    }
-}
-
 // ---- faults
 
 // A fault with this number at p, unless there is one that is lower or as low.
@@ -423,30 +391,84 @@ fn string_fault(mode: usize, name: usize, p: usize, f: Option<Fault>) -> Option<
     sooner(26, p, f)
 }
 
-// A token of class k in a mode, with its group and tightness; it begins at begin and may have a fault of its own.
+// ---- tokens
+
+// A token in a mode: its class, what that is grouped with, how strongly it binds as an operator, and the mode.
 #[derive(Clone, Copy)]
 pub struct Read {
     pub group: Group,
     pub kind: usize,
     pub tight: usize,
     pub mode: usize,
-    pub begin: usize,
-    pub own: Option<u32>,
 }
 
-// The fault behind a token.
-#[tactic(auto, unfolding(crate::specs::Levels::fault_in))]
-pub fn fault_in(t: Read, l: Level, v: Sort, name: usize, f: Option<Fault>) -> Option<Fault>
-    ensures { result ≡ fault_in t.group t.kind t.tight t.mode l v name t.begin t.own f }
-{
-    match t.group {
-        Group::StepToken | Group::Operand => with_own(t.own, t.begin, f),
-        Group::Slash => slash_fault(t.mode, l, f),
-        Group::Bar => lowered(!l.joined, l.m, f),
-        Group::Operator => operation_faults(t.kind, t.tight, t.mode, l, v, f),
-        Group::Quoted => string_fault(t.mode, name, t.begin, f),
-        Group::Square => lowered(!l.inpath, l.m, f),
-        Group::Other | Group::Round => f,
+impl Read {
+    // A token of class k in a mode.
+    pub fn new(k: usize, mode: usize) -> Self
+        ensures { result ≡ read_in k mode }
+    {
+        Read {
+            group: group_of(k),
+            kind: k,
+            tight: tightness_of(k),
+            mode,
+        }
+    }
+
+    // The level behind the token; what follows it begins at p.
+    #[tactic(auto, unfolding(crate::specs::Levels::level_in))]
+    pub fn level(self, p: usize, l: Level) -> Level
+        ensures { result ≡ level_in self.group self.tight self.mode p l }
+    {
+        match self.group {
+            Group::Other => l,
+            Group::StepToken => stepped(self.mode, l),
+            Group::Operand => other_begun(l),
+            Group::Slash => slashed(self.mode, l),
+            Group::Bar => union_at(p, l),
+            Group::Operator => operated(self.tight, p, l),
+            Group::Quoted => quoted(self.mode, l),
+            Group::Round => grouped(self.mode, l),
+            Group::Square => bracketed(l),
+        }
+    }
+
+    // The sort of the operand in progress behind the token.
+    #[tactic(auto, unfolding(crate::specs::Levels::sort_in))]
+    pub fn sort(self, v: Sort) -> Sort
+        ensures { result ≡ sort_in self.group self.kind self.mode v }
+    {
+        match self.group {
+            Group::StepToken | Group::Slash if self.mode < 3 => Sort::Nodes,
+            Group::Operand if self.kind == 15 => Sort::Numeral,
+            Group::Operand => Sort::Unheld,
+            Group::Quoted if self.mode != 10 => Sort::Unheld,
+            _ => v,
+        }
+    }
+
+    // The fault behind the token, which begins at p and may have a fault of its own.
+    #[tactic(auto, unfolding(crate::specs::Levels::fault_in))]
+    pub fn fault(
+        self,
+        p: usize,
+        own: Option<u32>,
+        l: Level,
+        v: Sort,
+        name: usize,
+        f: Option<Fault>,
+    ) -> Option<Fault>
+        ensures { result ≡ fault_in self.group self.kind self.tight self.mode l v name p own f }
+    {
+        match self.group {
+            Group::StepToken | Group::Operand => with_own(own, p, f),
+            Group::Slash => slash_fault(self.mode, l, f),
+            Group::Bar => lowered(!l.joined, l.m, f),
+            Group::Operator => operation_faults(self.kind, self.tight, self.mode, l, v, f),
+            Group::Quoted => string_fault(self.mode, name, p, f),
+            Group::Square => lowered(!l.inpath, l.m, f),
+            Group::Other | Group::Round => f,
+        }
     }
 }
 

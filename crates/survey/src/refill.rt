@@ -7,7 +7,7 @@ ghost use Rattle.survey.specs.Standing.{opened_kind, Goes, Traced, Follows, Refi
 use crate::facts::name_of;
 use crate::look::{Seen, look};
 use crate::window::Window;
-use levels::{fresh, group_of, level_in, tightness_of};
+use levels::{Read, fresh};
 use text::{Level, Run};
 use tokens::{is_due, run_end};
 
@@ -55,13 +55,7 @@ fn go_on(text: &[u8], t: Trace, s: Seen, window: &Window, lo: usize, hi: usize) 
         due: is_due(kind),
         mode: s.act - 1,
         name: name_of(text, kind, s.begin, s.end, t.name),
-        level: level_in(
-            group_of(kind),
-            tightness_of(kind),
-            t.mode,
-            s.behind,
-            t.level,
-        ),
+        level: Read::new(kind, t.mode).level(s.behind, t.level),
         ..t
     }
 }
@@ -73,7 +67,7 @@ fn open(text: &[u8], t: Trace, s: Seen, window: &mut Window, lo: usize, hi: usiz
 {
     let kind = s.kind;
     let behind = s.behind;
-    let left = level_in(group_of(kind), tightness_of(kind), t.mode, behind, t.level);
+    let left = Read::new(kind, t.mode).level(behind, t.level);
     window.keep(t.depth, lo, hi, left);
     Trace {
         count: t.count + 1,

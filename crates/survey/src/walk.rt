@@ -9,10 +9,7 @@ use crate::facts::{name_of, own_fault};
 use crate::look::{Seen, look};
 use crate::refill::{opened_kind, opened_mode, refill};
 use crate::window::{SPAN, Window};
-use levels::{
-    Read, end_faults, fault_in, fresh, group_of, is_fault_behind, level_in, level_sort, lowered,
-    sort_behind, sort_in, tightness_of,
-};
+use levels::{Read, end_faults, fresh, is_fault_behind, level_sort, lowered, sort_behind};
 use names::Names;
 use text::{Fault, Level, Run, Sort};
 use tokens::{END, is_due, run_end};
@@ -58,9 +55,7 @@ fn level_behind(s: State, t: Seen) -> Level
     requires { t.kind < 33 }
     ensures { result ≡ level_past s t }
 {
-    let kind = t.kind;
-    let level = s.level;
-    level_in(group_of(kind), tightness_of(kind), s.mode, t.behind, level)
+    Read::new(t.kind, s.mode).level(t.behind, s.level)
 }
 
 // The fault behind such a token, which may have a fault of its own.
@@ -69,21 +64,8 @@ fn fault_behind(s: State, t: Seen, own: Option<u32>) -> Option<Fault>
     requires { t.kind < 33 }
     ensures { result ≡ fault_past own s t }
 {
-    let kind = t.kind;
-    let group = group_of(kind);
-    let tight = tightness_of(kind);
-    let read = Read {
-        group,
-        kind,
-        tight,
-        mode: s.mode,
-        begin: t.begin,
-        own,
-    };
-    let level = s.level;
-    let sort = s.sort;
-    let fault = s.fault;
-    fault_in(read, level, sort, s.name, fault)
+    let read = Read::new(t.kind, s.mode);
+    read.fault(t.begin, own, s.level, s.sort, s.name, s.fault)
 }
 
 // A token that opens and closes nothing.
@@ -101,7 +83,7 @@ fn went(text: &[u8], s: State, t: Seen, own: Option<u32>) -> State
         due: is_due(kind),
         mode: t.act - 1,
         name: name_of(text, kind, t.begin, t.end, s.name),
-        sort: sort_in(group_of(kind), kind, s.mode, s.sort),
+        sort: Read::new(kind, s.mode).sort(s.sort),
         level,
         fault,
         ended: false,

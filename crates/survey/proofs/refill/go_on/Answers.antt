@@ -15,6 +15,6 @@ pub returns : goal.returns
 returns c = (
   traced_goes c.requires.0 _ _ _ c.requires.1
       c.is_due.ensures c.name_of.ensures
-      (c.level_in.ensures ∙ rw (c.group_of.ensures, c.tightness_of.ensures)),
+      (c.level.ensures ∙ rw c.new.ensures),
   refl,
 )

@@ -22,8 +22,7 @@ returns c = (
       c.requires.1
       c.requires.2
       c.is_due.ensures c.opened_mode.ensures
-      (c.level_in-left.ensures
-      ∙ rw (c.group_of.ensures, c.tightness_of.ensures))
+      (c.level-left.ensures ∙ rw c.new.ensures)
       (c.fresh.ensures ∙ rw c.opened_kind.ensures) c.keep.ensures,
   refl,
 )
