@@ -1,15 +1,6 @@
 -- The fault that is kept, and how urgent the survey has it: where the survey notes a fault, the most urgent of the two is kept.
 -- Assumes nothing.
-use Prim.Native.Nat.{ℕ, ◌+◌, ◌*◌, ◌≤◌, ◌<◌, max}
-use mathlib.Core.Path.{◌≡◌, refl, ◌∙◌, ap, sym, subst}
-use mathlib.Core.Bool.{Bool, true, false, ◌&&◌, ◌||◌, not}
-use mathlib.Core.Logic.{⊎_elim}
-use lib.Dec.{T, eqb, ltb, leb, eqb→eq, ltb→lt, leb→le, le→leb}
-use lib.ListN.{length}
-use native.Mathlib.Nat.{le_of_lt}
-use native.Mathlib.Omega.{arith}
-use Rattle.std.specs.Prelude.{Option, None, Some}
-use borrow.Author.Tests.{ltb-false, eq-eqb}
+use Rattle.std.proofs.Common.{ℕ, ◌+◌, ◌*◌, ◌≤◌, ◌<◌, max, ◌≡◌, refl, ◌∙◌, ap, sym, subst, Bool, true, false, ◌&&◌, ◌||◌, not, ⊎_elim, T, eqb, ltb, leb, eqb→eq, ltb→lt, leb→le, le→leb, length, le_of_lt, arith, Option, None, Some, ltb-false, eq-eqb}
 use Rattle.meaning.proofs.Bools.{and_l, and_r, and_i, or_e, or_none_l, or_none_r, truly, eq_or_ne}
 use Rattle.text.specs.declared.Fault.{Fault}
 use Rattle.text.specs.declared.Level.{Level}

@@ -1,10 +1,6 @@
 -- Laws of where a value stands among literals, entry by entry.
 -- Assumes nothing.
-use Prim.Native.Nat.{◌+◌}
-use native.Mathlib.Omega.{arith}
-use mathlib.Core.Path.{◌≡◌, refl}
-use mathlib.Core.Bool.{true, false}
-use mathlib.Core.List.{List, [], ◌∷◌}
+use Rattle.std.proofs.Common.{◌+◌, arith, ◌≡◌, refl, true, false, List, [], ◌∷◌}
 use lib.Ieee.{Float}
 use lib.Ieee as Ieee
 use Rattle.text.specs.Reading.{index_of}

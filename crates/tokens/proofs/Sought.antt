@@ -1,23 +1,13 @@
 -- Words: where one stands among some, and the class that it has there.
 -- Assumes nothing.
-use Prim.Native.Nat.{ℕ, ◌+◌, ◌≤◌, ◌<◌}
-use native.Mathlib.Omega.{arith}
-use mathlib.Core.Path.{◌≡◌, refl, ap, sym, ◌∙◌}
-use mathlib.Core.Bool.{Bool, true, false, ◌&&◌}
-use mathlib.Core.List.{List, [], ◌∷◌}
-use lib.ListN.{length, get_or, get_or-eq_default}
-use lib.Dec.{eqb}
-use borrow.Author.Tests.{eq-eqb, eqb-true, lt-ltb, le-ltb}
+use Rattle.std.proofs.Common.{ℕ, ◌+◌, ◌≤◌, ◌<◌, arith, ◌≡◌, refl, ap, sym, ◌∙◌, Bool, true, false, ◌&&◌, List, [], ◌∷◌, length, get_or, eqb, eq-eqb, eqb-true, lt-ltb, le-ltb}
+use lib.ListN.{get_or-eq_default}
 use Rattle.names.specs.Names.{same, position}
+use Rattle.names.proofs.Words.{same_itself}
 use Rattle.text.specs.Grammar.{Token, NodeType, 'processing_instruction', FunctionName}
 use Rattle.text.specs.Tokens.{code, class_among, node_types, node_type, axis_names, axis_name}
 
--- ---- the same words
-
-pub same_itself : (w : List ℕ) → same w w ≡ true
-unfolding same
-same_itself [] = refl
-same_itself (b ∷ w) = rw (eq-eqb b b refl, same_itself w)
+-- ---- words that are not the same
 
 pub same_other : (v w : List ℕ) → (v ≡ w → ⊥) → same v w ≡ false
 unfolding same

@@ -1,7 +1,5 @@
 -- `literals::front_end` meets its contract: the part is the front of the text behind its first bytes. Assumes nothing.
-use native.Mathlib.Omega.{arith}
-use mathlib.Core.Path.{◌∙◌}
-use lib.ListN.{length-take}
+use Rattle.std.proofs.Common.{arith, ◌∙◌, length-take}
 use Rattle.text.specs.Tokens.{run_end}
 use Rattle.literals.proofs.Parts.{part_of_front}
 use Rattle.literals.proofs.front_end.Goals as goal

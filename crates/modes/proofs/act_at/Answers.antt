@@ -1,13 +1,6 @@
 -- `modes::act_at` meets its contract: the table's rule is a test at each of its entries, which antt computes.
 -- Assumes nothing.
-use Prim.Native.Nat.{ℕ, ◌<◌}
-use mathlib.Core.Path.{◌≡◌}
-use mathlib.Core.Bool.{Bool, ◌&&◌}
-use mathlib.Core.List.{List, [], ◌∷◌}
-use lib.Dec.{T, eqb, eqb→eq}
-use lib.ListN.{length, get_or}
-use native.Mathlib.Omega.{arith}
-use borrow.Author.Rules.{rules}
+use Rattle.std.proofs.Common.{ℕ, ◌<◌, ◌≡◌, Bool, ◌&&◌, List, [], ◌∷◌, T, eqb, eqb→eq, length, get_or, arith, rules}
 use Rattle.meaning.proofs.Bools.{and_l, and_r}
 use Rattle.text.specs.Machine.{number, rows, has, pick}
 use Rattle.modes.specs.Acts.{opened, act_number, act_of}

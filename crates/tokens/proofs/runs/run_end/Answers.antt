@@ -1,6 +1,5 @@
 -- The answers of `tokens::runs::run_end`: what its code leaves to show, by the invariant beside this file. Assumes nothing.
-use native.Mathlib.Omega.{arith}
-use mathlib.Core.Path.{sym, ◌∙◌}
+use Rattle.std.proofs.Common.{arith, sym, ◌∙◌}
 use Rattle.text.proofs.Lexemes.{run_on, run_stop, run_past}
 use Rattle.tokens.proofs.runs.run_end.Goals as goal
 

@@ -1,6 +1,6 @@
 -- `tokens::runs::run_end` meets its contract. The loop's invariant: the run from `at` ends where the one from `i` does.
 -- Assumes nothing.
-use mathlib.Core.Path.{◌≡◌}
+use Rattle.std.proofs.Common.{◌≡◌}
 use Rattle.text.specs.Tokens.{run_end}
 use Rattle.tokens.proofs.runs.run_end.Given as goal
 

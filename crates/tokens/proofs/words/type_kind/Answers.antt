@@ -1,6 +1,5 @@
 -- `tokens::words::type_kind` meets its contract: each node type has its class, and any other word is a function's name. Assumes nothing.
-use native.Mathlib.Omega.{arith}
-use mathlib.Core.Path.{sym, ◌∙◌}
+use Rattle.std.proofs.Common.{arith, sym, ◌∙◌}
 use Rattle.text.specs.Tokens.{node_types, code}
 use Rattle.tokens.proofs.Sought.{typed, untyped}
 use Rattle.tokens.proofs.words.type_kind.Goals as goal
