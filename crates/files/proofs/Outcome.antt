@@ -12,8 +12,6 @@ use Rattle.meaning.specs.Lists.{up_to, some, lowest}
 use Rattle.meaning.specs.Table.{rows, most_rows, length_allowed, broken}
 use Rattle.meaning.specs.Answers.{answer, refused, table_answer, table_checks, output}
 use Rattle.meaning.specs.declared.Answer.{Answer}
-use Rattle.meaning.specs.declared.Refusal.{Refusal}
-use Rattle.meaning.specs.declared.Refusal.TheVariants.{TableLength, BrokenRow, PathLength, BadLiteral, BrokenPathRow, TooDeep, NoSuchNode, NoRoom, StepCounts, AbsolutePath, NoRoomToTurn, StepOnAttributes, NoSuchEdition}
 use Rattle.meaning.proofs.Bools.{is_true}
 use Rattle.meaning.proofs.Checks.{table_passes, table_stops}
 use Rattle.files.specs.Files.{bytes_of, Form, good, bad, HasForm}
@@ -33,22 +31,6 @@ module _ (a : Answer) (front out : List ℕ) (told : Answer) (e : told ≡ a) wh
   pub writes : (out' : List ℕ) → told.number ≡ 0 → out' ≡ front ++ drop (length front) out → Answered a front out told out'
   unfolding output
   writes out' z w = (e, w ∙ rw (eq-eqb told.number 0 z))
-
--- no refusal has number 0
-pub refused_some : (r : Refusal) → (refused r).number ≡ 0 → ⊥
-refused_some TableLength e = omega arith
-refused_some (BrokenRow i) e = omega arith
-refused_some PathLength e = omega arith
-refused_some (BadLiteral i) e = omega arith
-refused_some (BrokenPathRow i) e = omega arith
-refused_some TooDeep e = omega arith
-refused_some (NoSuchNode i) e = omega arith
-refused_some (NoRoom n) e = omega arith
-refused_some (StepCounts i) e = omega arith
-refused_some AbsolutePath e = omega arith
-refused_some (NoRoomToTurn n) e = omega arith
-refused_some (StepOnAttributes i) e = omega arith
-refused_some (NoSuchEdition n) e = omega arith
 
 -- the amount that is needed is there, or not
 pub enough : (amount room : ℕ) (next : Answer) → amount ≤ room → needs amount room next ≡ next

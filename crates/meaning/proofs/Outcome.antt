@@ -1,5 +1,6 @@
 -- What evaluation answers and leaves in its output, check by check, stated over what code has found.
 -- Assumes nothing.
+use Rattle.std.specs.Prelude.{Result, Ok, Err, is_err, not}
 use Prim.Native.Nat.{ℕ, ◌<◌, ◌≤◌}
 use mathlib.Core.Path.{◌≡◌, sym, ap, ◌∙◌}
 use mathlib.Core.Bool.{Bool, true, false}
@@ -9,7 +10,7 @@ use lib.Dec.{leb}
 use lib.Ieee.{Float}
 use native.Mathlib.Omega.{arith}
 use borrow.Author.Tests.{le-leb, lt-leb, ne_eqb}
-use Rattle.meaning.specs.Table.{rows, most_rows}
+use Rattle.meaning.specs.Table.{rows, most_rows, accepted}
 use Rattle.meaning.specs.Rows.{rows_of, most_path_rows}
 use Rattle.meaning.specs.Tree.{tree}
 use Rattle.meaning.specs.Meaning.{select}
@@ -19,6 +20,7 @@ use Rattle.meaning.specs.declared.Answer.{Answer}
 use Rattle.meaning.specs.declared.Refusal.{Refusal}
 use Rattle.meaning.specs.declared.Refusal.TheVariants.{TableLength, BrokenRow, PathLength, BadLiteral, BrokenPathRow, TooDeep, NoSuchNode, NoRoom, StepCounts, AbsolutePath, NoRoomToTurn, StepOnAttributes, NoSuchEdition}
 use Rattle.meaning.proofs.Tables.{few_rows}
+use Rattle.meaning.proofs.Checks as C
 use Rattle.meaning.proofs.Checks.{table_passes, table_stops, table_accepted, path_accepted, path_passes, path_stops, most_rows_lem}
 
 -- a refusal's number is not 0
@@ -38,8 +40,13 @@ refusal_number (StepOnAttributes k) = omega arith
 refusal_number (NoSuchEdition edition) = omega arith
 
 -- nor is that of an answer that a refusal is
-refused_number : (r : Refusal) (a : Answer) → refused r ≡ a → a.number ≡ 0 → ⊥
+pub refused_number : (r : Refusal) (a : Answer) → refused r ≡ a → a.number ≡ 0 → ⊥
 refused_number r a e z = omega (arith, refusal_number r, ap (λ (a : Answer). a.number) e, z)
+
+-- a table is accepted exactly if its checker's outcome is no refusal
+pub accepted_told : (t : List ℕ) (r : Result ℕ Refusal) → told r ≡ table_answer t → accepted t ≡ not (is_err r)
+accepted_told t (Ok n) e = table_accepted t (ap (λ (a : Answer). a.number) (sym e))
+accepted_told t (Err r) e = C.table_refused t (refused_number r _ e)
 
 -- a table whose answer is 0 has at most 8,192 rows, a path whose answer is 0 at most 256
 pub table_fits : (t : List ℕ) → (table_answer t).number ≡ 0 → rows t ≤ most_rows

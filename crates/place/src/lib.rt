@@ -9,8 +9,7 @@ ghost use Rattle.meaning.specs.Answers.{askable};
 ghost use Rattle.meaning.specs.Promises.{AnswersPlace};
 
 use axes::{holds, is_reverse, nth};
-use basics::wide;
-use meaning::{Answer, Axis, LAST_AXIS};
+use meaning::{Axis, LAST_AXIS};
 use table::row_count;
 use table_check::check_table;
 
@@ -18,8 +17,7 @@ use table_check::check_table;
 fn is_askable(table: &[u32], axis: usize, x: usize, y: usize) -> bool
     ensures { result ≡ askable table.now axis x y }
 {
-    let answer = Answer::from(check_table(table));
-    if answer.number != 0 {
+    if check_table(table).is_err() {
         return false;
     }
     let n = row_count(table);
@@ -51,12 +49,9 @@ fn place_on(table: &[u32], axis: Axis, x: usize, y: usize) -> usize
 pub fn axis_place(table: &[u32], axis: u32, x: u32, y: u32) -> u32
     ensures { AnswersPlace table.now axis x y result }
 {
-    let number = wide(axis);
-    let start = wide(x);
-    let node = wide(y);
+    let (number, start, node) = (axis as usize, x as usize, y as usize);
     if !is_askable(table, number, start, node) {
         return 0;
     }
-    let named = Axis::from(number);
-    place_on(table, named, start, node) as u32
+    place_on(table, Axis::from(number), start, node) as u32
 }

@@ -8,7 +8,8 @@ use Rattle.meaning.proofs.Checks.{table_accepted}
 use Rattle.meaning.proofs.Tables as T
 use Rattle.decimal.proofs.Laid.{laid_front}
 use Rattle.files.specs.Files.{bytes_of}
-use Rattle.files.proofs.Outcome.{refuses, writes, refused_some, write_broken, write_short, write_whole}
+use Rattle.meaning.proofs.Outcome.{refused_number}
+use Rattle.files.proofs.Outcome.{refuses, writes, write_broken, write_short, write_whole}
 use Rattle.files.proofs.writer.write_table.Goals as goal
 
 pub returns-in_err-check_table : goal.returns-in_err-check_table
@@ -16,7 +17,7 @@ returns-in_err-check_table c =
     let p = err_from_is_err_and c.from_residual.result c.from_residual.ensures.1 in
     let r = c.in_err-check_table.field-0.0 in
     rw (p.1, p.2)
-    (refuses _ _ _ _ (c.in_err-check_table.ensures ∙ write_broken _ _ (λ z. refused_some r (ap (λ (a : Answer). a.number) c.in_err-check_table.ensures ∙ z))) (refused_some r))
+    (refuses _ _ _ _ (c.in_err-check_table.ensures ∙ write_broken _ _ (refused_number r _ c.in_err-check_table.ensures)) (refused_number r _ refl))
 
 pub bytes_needed-needed-requires : goal.bytes_needed-needed-requires
 bytes_needed-needed-requires c =
