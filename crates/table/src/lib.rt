@@ -6,8 +6,6 @@ ghost use Rattle.std.specs.Prelude.{◌≡◌, ◌<◌};
 ghost use Rattle.meaning.specs.Table.{rows, kind, is_attribute, name, parent_of, size, end};
 ghost use Rattle.table.specs.Kinds.{kind_of};
 
-use basics::wide;
-
 // What a node is: kinds 0 to 5, each at its number. Any other number is unknown.
 #[derive(Clone, Copy, PartialEq, Eq)]
 pub enum Kind {
@@ -49,7 +47,7 @@ pub fn kind_number_at(table: &[u32], i: usize) -> usize
     requires { i < rows table.now }
     ensures { (result ≡ kind table.now i) × (result < 4294967296) }
 {
-    wide(table[4 * i])
+    table[4 * i] as usize
 }
 
 // What row i is.
@@ -73,21 +71,21 @@ pub fn name_at(table: &[u32], i: usize) -> usize
     requires { i < rows table.now }
     ensures { (result ≡ name table.now i) × (result < 4294967296) }
 {
-    wide(table[4 * i + 1])
+    table[4 * i + 1] as usize
 }
 
 pub fn parent_at(table: &[u32], i: usize) -> usize
     requires { i < rows table.now }
     ensures { (result ≡ parent_of table.now i) × (result < 4294967296) }
 {
-    wide(table[4 * i + 2])
+    table[4 * i + 2] as usize
 }
 
 pub fn size_at(table: &[u32], i: usize) -> usize
     requires { i < rows table.now }
     ensures { (result ≡ size table.now i) × (result < 4294967296) }
 {
-    wide(table[4 * i + 3])
+    table[4 * i + 3] as usize
 }
 
 // The last row of i's subtree: a sum of whole numbers, which 64 bits hold.
