@@ -1,7 +1,7 @@
 -- Laws of a pass, where it stands at a row: what it knows decides each rule for that row, and it knows as much of the next row once that one
 -- is passed. That it knows it is a fact of which nothing is taken out but truths.
 -- Assumes nothing.
-use Rattle.std.proofs.Common.{ℕ, ◌+◌, ◌-◌, ◌<◌, ◌≤◌, ◌≡◌, ◌∙◌, sym, Bool, true, false, ◌&&◌, not, List, length, get_or, T, eqb, ltb, leb, arith, refl, Option, Some, None}
+use Rattle.std.proofs.Common.{ℕ, ◌+◌, ◌-◌, ◌<◌, ◌≤◌, ◌≡◌, ◌∙◌, sym, true, false, ◌&&◌, List, length, get_or, eqb, ltb, leb, arith, refl, Option, Some, None}
 use Rattle.std.proofs.Math.Logic.{∥∥₁_elim, ∥∥₁_map}
 use Rattle.std.proofs.Props.{props}
 use lib.ListN.{set, replicate}
@@ -9,8 +9,7 @@ use Rattle.meaning.specs.Lists.{lowest}
 use Rattle.meaning.specs.Table.{rows, most_rows, kind, name, size, parent_of, end, is_element, is_text, is_attribute, good_root, later_element, text_after_text, among_attributes, attribute_again, broken}
 use Rattle.meaning.proofs.Bools.{truly}
 use Rattle.meaning.proofs.Checks.{Passed, passed_more, passed_found, passed_all}
-use Rattle.meaning.proofs.Lists.{one_value}
-use Rattle.meaning.proofs.Tables.{ChildRow, good_child_lem}
+use Rattle.meaning.proofs.Tables.{good_child_lem}
 use Rattle.table_check.specs.Next.{first_element, good_numbers, well_placed, Next, Behind, Lowest}
 use Rattle.table_check.specs.Names.{stopped}
 use Rattle.table_check.specs.Passes.{Passing}

@@ -1,8 +1,8 @@
 -- What the table checker knows on its way: the table's first element, and where the next child of each row that it has passed must stand.
 -- Assumes nothing: these are definitions.
-use Rattle.std.specs.Prelude.{ℕ, ◌+◌, ◌<◌, ◌≤◌, ◌≡◌, Bool, true, false, ◌&&◌, Option, Some, None, List, length, get_or, leb}
+use Rattle.std.specs.Prelude.{ℕ, ◌+◌, ◌<◌, ◌≡◌, Bool, true, false, ◌&&◌, Option, Some, None, List, get_or, leb}
 use Rattle.meaning.specs.Lists.{lowest}
-use Rattle.meaning.specs.Table.{kind, name, size, rows, most_rows, end, is_element, good_root, good_name, good_size, good_parent, broken}
+use Rattle.meaning.specs.Table.{kind, name, size, rows, end, is_element, good_root, good_name, good_size, good_parent, broken}
 
 -- the lowest row of kind 1, and the row count where there is none
 abbrev pub first_element : List ℕ → ℕ
@@ -43,10 +43,3 @@ pub record Behind (t : List ℕ) (i : ℕ) : Type 0 where
   pub inner : 0 < i
   pub row : i < rows t
   pub sound : (j : ℕ) → j < i → broken t j ≡ false
-
--- what is asked to look at row i: it stands behind sound rows, and next is known of them
-pub record Looked (t : List ℕ) (i : ℕ) (next : List ℕ) : Type 0 where
-  pub behind : Behind t i
-  pub few : rows t ≤ most_rows
-  pub long : length next ≡ most_rows
-  pub known : Next t i next

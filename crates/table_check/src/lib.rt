@@ -222,7 +222,6 @@ fn lowest_stop<const NAMES: usize>(table: &[u32], first: usize) -> Option<usize>
     requires { (0 < rows table.now) × (rows table.now ≤ most_rows) × RootIs table.now (Some first) × (NAMES ≤ 65536) }
     ensures { Lowest (stopped table.now NAMES) (rows table.now) result }
 {
-    let n = row_count(table);
     let mut pass: Pass<NAMES> = Pass {
         table,
         first,
@@ -230,9 +229,9 @@ fn lowest_stop<const NAMES: usize>(table: &[u32], first: usize) -> Option<usize>
         last: [0; MOST_ROWS],
         seen: [0; NAMES],
     };
-    while pass.row < n {
+    for row in 1..row_count(table) {
         if !pass.may_pass() {
-            return Some(pass.row);
+            return Some(row);
         }
         pass.pass();
     }
@@ -255,7 +254,7 @@ fn lowest_broken_row(table: &[u32]) -> Option<usize>
     Some(row)
 }
 
-// 1 for a length that is not allowed, 2 with the lowest broken row, 0 with the row count.
+// The row count of an accepted table; else that its length is not allowed, or its lowest broken row.
 pub fn check_table(table: &[u32]) -> Result<u32, Refusal>
     ensures { ChecksTable table.now (told result) }
 {

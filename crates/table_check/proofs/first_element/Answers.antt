@@ -2,7 +2,7 @@
 -- Assumes nothing.
 use Rattle.std.proofs.Common.{◌≡◌, ◌∙◌, sym, arith}
 use Rattle.meaning.specs.Table.{rows}
-use Rattle.meaning.proofs.Checks.{Passed, passed_start, passed_more, passed_found, passed_all}
+use Rattle.meaning.proofs.Checks.{passed_start, passed_more, passed_found, passed_all}
 use Rattle.table.proofs.Numbers.{same_kind}
 use Rattle.table_check.proofs.first_element.Goals as goal
 

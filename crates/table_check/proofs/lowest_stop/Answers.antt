@@ -16,11 +16,11 @@ may_pass-requires g c = (omega arith, omega arith)
 
 pub returns-then-not-may_pass : goal.returns-then-not-may_pass
 returns-then-not-may_pass g c =
-    let p = c.loop-pass.pass in
-    rw (← c.loop-pass.invariant.1) (omega arith, stops _ _ _ _ _ p.knows (omega arith) (stops_here _ _ _ (sym c.may_pass.ensures ∙ c.if-not-may_pass.true)))
+    let p = c.loop-row.pass in
+    rw (← c.loop-row.invariant.2, ← c.loop-row.invariant.0) (omega arith, stops _ _ _ _ _ p.knows (omega arith) (stops_here _ _ _ (sym c.may_pass.ensures ∙ c.if-not-may_pass.true)))
 
 pub pass-requires : goal.pass-requires
 pass-requires g c = (omega arith, (omega arith, goes_past _ _ _ (sym c.may_pass.ensures ∙ c.if-not-may_pass.false)))
 
 pub returns : goal.returns
-returns g c = rw (← c.loop-pass.invariant.1) (stops_nowhere _ _ _ _ _ c.loop-pass.pass.knows (omega arith))
+returns g c = rw (← c.loop-row.invariant.2) (stops_nowhere _ _ _ _ _ c.loop-row.pass.knows (omega arith))

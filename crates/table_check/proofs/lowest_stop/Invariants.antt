@@ -1,11 +1,8 @@
--- `table_check::lowest_stop` meets its contract: the pass goes over the table.
+-- `table_check::lowest_stop` meets its contract: the pass stands at the row.
 -- Assumes nothing.
-use Rattle.std.proofs.Common.{◌≡◌, ◌-◌}
+use Rattle.std.proofs.Common.{◌≡◌}
 use Rattle.meaning.specs.Table.{rows}
 use Rattle.table_check.proofs.lowest_stop.Given as goal
 
-abbrev pub invariant-loop-pass : goal.invariant-loop-pass
-invariant-loop-pass g l = (l.n ≡ rows l.pass.table.now) × (l.pass.table.now ≡ l.table)
-
-abbrev pub decreases-loop-pass : goal.decreases-loop-pass
-decreases-loop-pass g l = l.n - l.pass.row
+abbrev pub invariant-loop-row : goal.invariant-loop-row
+invariant-loop-row g l = (l.pass.row ≡ l.row) × (rows l.pass.table.now ≡ rows l.table) × (l.pass.table.now ≡ l.table)
