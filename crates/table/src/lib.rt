@@ -1,5 +1,5 @@
 // Reads of a node table's rows, each equal to its definition (document 01, "The node table"). A row that is read is there, so no read
-// compares.
+// compares. The reads take a table and a row as they are, and no struct of both: docs/PROMISES.md promises them of any such two.
 #![tactic(auto)]
 
 ghost use Rattle.std.specs.Prelude.{◌≡◌, ◌<◌};

@@ -4,7 +4,7 @@
 use Rattle.std.proofs.Common.{ℕ, ◌+◌, ◌-◌, ◌<◌, ◌≤◌, ◌≡◌, ◌∙◌, sym, true, false, ◌&&◌, List, length, get_or, eqb, ltb, leb, arith, refl, Option, Some, None}
 use Rattle.std.proofs.Math.Logic.{∥∥₁_elim, ∥∥₁_map}
 use Rattle.std.proofs.Props.{props}
-use lib.ListN.{set, replicate}
+use Rattle.std.proofs.Math.ListN.{set, replicate}
 use Rattle.meaning.specs.Lists.{lowest}
 use Rattle.meaning.specs.Table.{rows, most_rows, kind, name, size, parent_of, end, is_element, is_text, is_attribute, good_root, later_element, text_after_text, among_attributes, attribute_again, broken}
 use Rattle.meaning.proofs.Bools.{truly}

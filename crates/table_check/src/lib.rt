@@ -113,7 +113,8 @@ fn is_unlisted(table: &[u32], names: usize, i: usize) -> bool
     is_attribute(table, i) && names <= name_at(table, i)
 }
 
-// A pass over the rows behind a sound root, with room for attributes' names below NAMES.
+// A pass over the rows behind a sound root, with room for attributes' names below NAMES. Once it is through it stands at the row count, so
+// that it stands at a row is asked where it has to.
 #[derive(Drop)]
 struct Pass<'a, const NAMES: usize> {
     table: &'a [u32],
