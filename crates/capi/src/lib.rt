@@ -22,9 +22,9 @@ use view::ends_of;
 fn tell(outcome: Result<u32, Refusal>, place: &mut u32) -> u32
     ensures { answer result place.new ≡ told outcome }
 {
-    let answer = Answer::from(outcome);
-    *place = answer.place;
-    answer.number
+    let outcome = Answer::from(outcome);
+    *place = outcome.place;
+    outcome.number
 }
 
 #[unsafe(no_mangle)]
