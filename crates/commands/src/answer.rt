@@ -1,162 +1,143 @@
-// The answers: each calls a public function of the library and writes what it gave as a line.
-use crate::show::{
-    Unit, write_answer, write_library_limit, write_own_limit, write_part, write_place,
-};
-use files::WideAnswer;
-use lines::output::{UNTOUCHED, UNTOUCHED_BYTE, copy_bytes, front};
-use lines::read::{count_of, number_at, read_numbers, small};
-use meaning::{Answer, MOST_ROWS};
+// The answers: each calls a public function of the library and puts what it gave into the reply.
+use crate::command::{Question, TableQuestion};
+use crate::desk::{Desk, MOST_HELD};
+use crate::outcome::{Entry, Outcome};
+use crate::reply::{Entries, Reply};
+use lines::{Numbers, small};
+use meaning::MOST_ROWS;
+use std::alloc::AllocError;
 use std::io;
 
-// The programs hold tables of so many rows; the library takes more.
-pub const MOST_HELD: usize = 4096;
-
-// The most entries of an output slice or of a list.
+// The most entries of an output or of a list.
 const MOST_ENTRIES: usize = 4200;
 
-// An answer whose place has 32 bits, as one whose place has 64: they are shown alike.
-fn widened(answer: Answer) -> WideAnswer {
-    WideAnswer {
-        number: answer.number,
-        place: answer.place as u64,
+// The most numbers of a table that the library takes.
+const MOST_NUMBERS: usize = 4 * MOST_ROWS;
+
+impl Desk {
+    // Answers a question about the path or the file.
+    pub fn answer(
+        &self,
+        question: Question,
+        numbers: Numbers<'_>,
+        reply: &mut Reply,
+    ) -> io::Result<()> {
+        match question {
+            Question::CheckPath => {
+                let outcome = path_check::check_path(&self.path, &self.literals);
+                reply.outcome(Outcome::from(outcome), Entries::Rows(&[]))
+            }
+            Question::Turn => self.answer_turn(numbers, reply),
+            Question::ReadTable => self.answer_read_table(numbers, reply),
+        }
     }
-}
 
-pub fn answer_check_table(rt: &impl Print, line: &[u8], table: &[u32]) -> io::Result<()> {
-    let answer = Answer::from(table_check::check_table(table));
-    write_answer(rt, line, widened(answer), Unit::Row, 0, front(table, 0))
-}
-
-// A question about a table that is not held: which limit its length is above. Above its own the library is asked: it looks at the length
-// alone, so any numbers do.
-pub fn answer_limit(rt: &impl Print, line: &[u8], length: usize) -> io::Result<()> {
-    if length <= 4 * MOST_ROWS {
-        return write_own_limit(rt, line, MOST_HELD);
+    // Answers a question about the table, which is held.
+    pub fn answer_of_table(
+        &self,
+        question: TableQuestion,
+        table: &[u32],
+        numbers: Numbers<'_>,
+        reply: &mut Reply,
+    ) -> io::Result<()> {
+        match question {
+            TableQuestion::Check => {
+                let outcome = table_check::check_table(table);
+                reply.outcome(Outcome::from(outcome), Entries::Rows(&[]))
+            }
+            TableQuestion::Place => answer_place(table, numbers, reply),
+            TableQuestion::Evaluate => self.answer_evaluate(table, numbers, reply),
+            TableQuestion::View => self.answer_view(table, numbers, reply),
+            TableQuestion::Write => self.answer_write_table(table, numbers, reply),
+        }
     }
-    let space = [0u32; 4 * MOST_ROWS + 4];
-    let lent: &[u32] = &space;
-    let answer = Answer::from(table_check::check_table(front(lent, length)));
-    write_library_limit(rt, line, widened(answer), MOST_ROWS)
-}
 
-pub fn answer_check_path(
-    rt: &impl Print,
-    line: &[u8],
-    path: &[u32],
-    literals: &[f64],
-) -> io::Result<()> {
-    let answer = path_check::check_path(path, literals);
-    write_answer(rt, line, widened(answer), Unit::Row, 0, front(path, 0))
+    // Which limit the length of a table that is not held is above. Above its own the library is asked: it looks at the length alone, so any
+    // numbers do.
+    pub fn answer_limit(&self, length: usize, reply: &mut Reply) -> io::Result<()> {
+        if length <= MOST_NUMBERS {
+            return reply.own_limit(MOST_HELD);
+        }
+        let table = vec![in self.alloc; 0; length.min(MOST_NUMBERS + 4)]?;
+        let outcome = table_check::check_table(&table);
+        reply.library_limit(Outcome::from(outcome), MOST_ROWS)
+    }
+
+    // An output with the room that a line says, untouched.
+    fn output<T: Entry>(&self, mut numbers: Numbers<'_>) -> Result<Vec<T>, AllocError> {
+        vec![in self.alloc; T::UNTOUCHED; numbers.count(MOST_ENTRIES)]
+    }
+
+    // `evaluate edition start room`
+    fn answer_evaluate(
+        &self,
+        table: &[u32],
+        mut numbers: Numbers<'_>,
+        reply: &mut Reply,
+    ) -> io::Result<()> {
+        let edition = numbers.small();
+        let start = numbers.small();
+        let mut output = self.output(numbers)?;
+        let outcome = Outcome::from(select::evaluate(
+            edition,
+            table,
+            &self.path,
+            &self.literals,
+            start,
+            &mut output,
+        ));
+        let (nodes, rest) = outcome.parts(&output, 1);
+        reply.answer(outcome, Entries::Nodes(nodes), rest)
+    }
+
+    // `turn room`
+    fn answer_turn(&self, numbers: Numbers<'_>, reply: &mut Reply) -> io::Result<()> {
+        let mut output = self.output(numbers)?;
+        let outcome = Outcome::from(turn::turn(&self.path, &self.literals, &mut output));
+        let (rows, rest) = outcome.parts(&output, 5);
+        reply.answer(outcome, Entries::Rows(rows), rest)
+    }
+
+    // `view node n ...`: where the part begins, and the part itself.
+    fn answer_view(
+        &self,
+        table: &[u32],
+        mut numbers: Numbers<'_>,
+        reply: &mut Reply,
+    ) -> io::Result<()> {
+        let node = numbers.small();
+        let count = numbers.count(MOST_ENTRIES);
+        let list = numbers.list(self.alloc, count, small)?;
+        let ends = view::ends_of(table, &list, node);
+        reply.part(ends.begin, view::view(table, &list, node))
+    }
+
+    // `read_table room`
+    fn answer_read_table(&self, numbers: Numbers<'_>, reply: &mut Reply) -> io::Result<()> {
+        let mut output = self.output(numbers)?;
+        let outcome = Outcome::from(files::read_table(&self.file, &mut output));
+        let (entries, rest) = outcome.parts(&output, 1);
+        reply.answer(outcome, Entries::Numbers(entries), rest)
+    }
+
+    // `write_table room`
+    fn answer_write_table(
+        &self,
+        table: &[u32],
+        numbers: Numbers<'_>,
+        reply: &mut Reply,
+    ) -> io::Result<()> {
+        let mut output = self.output(numbers)?;
+        let outcome = Outcome::from(files::write_table(table, &mut output));
+        let (bytes, rest) = outcome.parts(&output, 1);
+        reply.answer(outcome, Entries::Bytes(bytes), rest)
+    }
 }
 
 // `place axis x y`
-pub fn answer_place(rt: &impl Print, line: &[u8], at: usize, table: &[u32]) -> io::Result<()> {
-    let axis = number_at(line, at);
-    let x = number_at(line, axis.next);
-    let y = number_at(line, x.next);
-    let place = place::axis_place(table, small(axis.value), small(x.value), small(y.value));
-    write_place(rt, line, place)
-}
-
-// `evaluate edition start room`
-pub fn answer_evaluate(
-    rt: &impl Print,
-    line: &[u8],
-    at: usize,
-    table: &[u32],
-    path: &[u32],
-    literals: &[f64],
-) -> io::Result<()> {
-    let edition = number_at(line, at);
-    let start = number_at(line, edition.next);
-    let size = number_at(line, start.next);
-    let mut space = [UNTOUCHED; MOST_ENTRIES];
-    let room = count_of(size.value, MOST_ENTRIES);
-    let out = &mut space[..room];
-    let answer = Answer::from(select::evaluate(
-        small(edition.value),
-        table,
-        path,
-        literals,
-        small(start.value),
-        out,
-    ));
-    write_answer(
-        rt,
-        line,
-        widened(answer),
-        Unit::Node,
-        answer.place as usize,
-        out,
-    )
-}
-
-// `turn room`
-pub fn answer_turn(
-    rt: &impl Print,
-    line: &[u8],
-    at: usize,
-    path: &[u32],
-    literals: &[f64],
-) -> io::Result<()> {
-    let size = number_at(line, at);
-    let mut space = [UNTOUCHED; MOST_ENTRIES];
-    let room = count_of(size.value, MOST_ENTRIES);
-    let out = &mut space[..room];
-    let answer = turn::turn(path, literals, out);
-    write_answer(
-        rt,
-        line,
-        widened(answer),
-        Unit::Row,
-        5 * answer.place as usize,
-        out,
-    )
-}
-
-// `view node n ...`: where the part begins, and the part itself.
-pub fn answer_view(rt: &impl Print, line: &[u8], at: usize, table: &[u32]) -> io::Result<()> {
-    let node = number_at(line, at);
-    let v = small(node.value);
-    let mut space = [0u32; MOST_ENTRIES];
-    let list: &mut [u32] = &mut space;
-    let count = read_numbers(line, node.next, list);
-    let entries = front(list, count);
-    let ends = view::ends_of(table, entries, v);
-    write_part(rt, line, ends.begin, view::view(table, entries, v))
-}
-
-// `read_table room`
-pub fn answer_read_table(rt: &impl Print, line: &[u8], at: usize, file: &[u8]) -> io::Result<()> {
-    let size = number_at(line, at);
-    let mut space = [UNTOUCHED; MOST_ENTRIES];
-    let room = count_of(size.value, MOST_ENTRIES);
-    let out = &mut space[..room];
-    let answer = WideAnswer::from(files::read_table(file, out));
-    write_answer(rt, line, answer, Unit::Number, answer.place as usize, out)
-}
-
-// `write_table room`
-pub fn answer_write_table(
-    rt: &impl Print,
-    line: &[u8],
-    at: usize,
-    table: &[u32],
-) -> io::Result<()> {
-    let size = number_at(line, at);
-    let mut space = [UNTOUCHED_BYTE; MOST_ENTRIES];
-    let room = count_of(size.value, MOST_ENTRIES);
-    let out = &mut space[..room];
-    let answer = WideAnswer::from(files::write_table(table, out));
-    let mut entry_space = [UNTOUCHED; MOST_ENTRIES];
-    let entries: &mut [u32] = &mut entry_space;
-    copy_bytes(out, entries);
-    write_answer(
-        rt,
-        line,
-        answer,
-        Unit::Byte,
-        answer.place as usize,
-        front(entries, room),
-    )
+fn answer_place(table: &[u32], mut numbers: Numbers<'_>, reply: &mut Reply) -> io::Result<()> {
+    let axis = numbers.small();
+    let x = numbers.small();
+    let y = numbers.small();
+    reply.place(place::axis_place(table, axis, x, y))
 }

@@ -1,64 +1,116 @@
-// Lines of text for the programs: a buffer is filled from the front, and written to standard output where the line ends; `read` is
-// the other way. Each function here takes how much of the buffer is used and gives back how much is used then. What has no room is left out.
+// Reading lines of text for the programs: what stands before and behind a byte, and the decimal numbers of a text.
 #![tactic(auto)]
 
-pub mod output;
-pub mod read;
+ghost use Rattle.std.specs.Prelude.{◌≡◌, ℕ, ◌+◌, ◌*◌, ◌^◌, ◌<◌, ◌≤◌, ◌≢◌, ◌∷◌, ◌++◌, min, if◌then◌else◌, nat_le, IfOk, OnOk, MatchOption, All, vec_len, true, false};
+ghost use Rattle.std.specs.Char.{is_ascii_digit};
+ghost use Rattle.lines.specs.Numbers.{number_of, behind_number};
 
-use itoa::Buffer;
-use output::least;
-use std::io;
+use std::alloc::{AllocError, Global};
 
-pub fn put_byte(line: &mut [u8], used: usize, byte: u8) -> usize {
-    if used < line.len() {
-        line[used] = byte;
-        used + 1
+// What stands before the first such byte of a text, and what behind it.
+pub fn split_once(text: &[u8], byte: u8) -> Option<(&[u8], &[u8])>
+    ensures { MatchOption result (All (λ b. b ≢ byte) text.now) (λ h. (text.now ≡ h.0.now ++ (byte ∷ h.1.now)) × All (λ b. b ≢ byte) h.0.now) }
+{
+    let i = text.iter().position(|b| *b == byte)?;
+    Some((&text[..i], &text[i + 1..]))
+}
+
+// The digit that a byte is.
+fn digit_of(byte: u8) -> Option<u64>
+    ensures { MatchOption result (is_ascii_digit byte ≡ false) (λ d. (is_ascii_digit byte ≡ true) × (byte ≡ 48 + d) × (d < 10)) }
+{
+    match byte {
+        b'0'..=b'9' => Some(u64::from(byte - b'0')),
+        _ => None,
+    }
+}
+
+// One digit more; a number past 64 bits stays as it is.
+fn extended(value: u64, digit: u64) -> u64
+    ensures { 10 * value + digit < 2 ^ 64 → result ≡ 10 * value + digit }
+{
+    if value <= u64::MAX / 10 {
+        (10 * value).wrapping_add(digit)
     } else {
-        used
+        value
     }
 }
 
-pub fn put_text(line: &mut [u8], used: usize, text: &[u8]) -> usize {
-    let mut end = used;
-    let mut i = 0;
-    while i < text.len() {
-        end = put_byte(line, end, text[i]);
-        i += 1;
+// A number as 32 bits: the most that they hold where it is above that.
+pub fn small(value: u64) -> u32
+    ensures { result ≡ min value 4294967295 }
+{
+    u32::try_from(value).unwrap_or(u32::MAX)
+}
+
+// The decimal numbers of a text. One byte behind each is passed, and a number that is missing is 0.
+#[derive(Drop)]
+pub struct Numbers<'a> {
+    pub unread: &'a [u8],
+}
+
+impl Numbers<'_> {
+    // The next number; a text that is used up has 0.
+    pub fn number(&mut self) -> u64
+        ensures value { number_of self.old.unread.now < 2 ^ 64 → result ≡ number_of self.old.unread.now }
+        ensures unread { self.new.unread.now ≡ behind_number self.old.unread.now }
+    {
+        let mut value = 0;
+        while let Some((byte, unread)) = self.unread.split_first() {
+            self.unread = unread;
+            match digit_of(*byte) {
+                Some(digit) => value = extended(value, digit),
+                None => return value,
+            }
+        }
+        value
     }
-    end
-}
 
-pub fn put_number(line: &mut [u8], used: usize, n: u64) -> usize {
-    let mut digits = Buffer::new();
-    put_text(line, used, digits.format(n).as_bytes())
-}
-
-// Each number with a space before it.
-pub fn put_numbers(line: &mut [u8], used: usize, numbers: &[u32]) -> usize {
-    let mut end = used;
-    let mut i = 0;
-    while i < numbers.len() {
-        end = put_byte(line, end, b' ');
-        end = put_number(line, end, numbers[i] as u64);
-        i += 1;
+    // The next number as 32 bits.
+    pub fn small(&mut self) -> u32
+        ensures value { number_of self.old.unread.now < 2 ^ 64 → result ≡ min (number_of self.old.unread.now) 4294967295 }
+        ensures unread { self.new.unread.now ≡ behind_number self.old.unread.now }
+    {
+        small(self.number())
     }
-    end
-}
 
-// Spaces up to a column.
-pub fn pad_to(line: &mut [u8], used: usize, column: usize) -> usize {
-    let mut end = used;
-    let mut i = used;
-    while i < column {
-        end = put_byte(line, end, b' ');
-        i += 1;
+    // The next number as a count, or the most that there is room for.
+    pub fn count(&mut self, most: usize) -> usize
+        ensures bound { result ≤ most }
+        ensures value { number_of self.old.unread.now < 2 ^ 64 → result ≡ min (number_of self.old.unread.now) most }
+        ensures unread { self.new.unread.now ≡ behind_number self.old.unread.now }
+    {
+        usize::try_from(self.number()).unwrap_or(most).min(most)
     }
-    end
+
+    // So many numbers, each as a function gives it.
+    pub fn list<T: Drop, F: Fn(u64) -> T>(
+        &mut self,
+        alloc: Global,
+        count: usize,
+        read: F,
+    ) -> Result<Vec<T>, AllocError>
+        requires { (f : F) (x : _) → F.pre f x }
+        ensures { IfOk result (λ v. vec_len v ≡ count) }
+    {
+        (0..count).map(|_| read(self.number())).collect(alloc)
+    }
 }
 
-// Ends the line and writes it.
-pub fn write_line(rt: &impl Print, line: &mut [u8], used: usize) -> io::Result<()> {
-    let end = put_byte(line, used, b'\n');
-    let count = least(end, line.len());
-    rt.write_all(&line[..count])
+#[cfg(test)]
+mod tests {
+    use super::*;
+    use std::test::Fail;
+
+    #[test]
+    fn reads_numbers(rt: HostRuntime) -> Result<(), Fail> {
+        let mut numbers = Numbers {
+            unread: b"9 7 18446744073709551615x4294967296, 5",
+        };
+        assert_eq!(rt; numbers.count(6), 6);
+        let list = numbers.list(rt.alloc(), 6, small)?;
+        let most = u32::MAX;
+        assert_eq!(rt; list.as_slice(), [7, most, most, 0, 5, 0].as_slice());
+        Ok(())
+    }
 }
