@@ -42,7 +42,7 @@ pub fn row_count(table: &[u32]) -> usize
     table.len() / 4
 }
 
-// The number of row i's kind.
+// The number of row i's kind, any number: what a table that is not yet checked holds, and what `passes_test` compares.
 pub fn kind_number_at(table: &[u32], i: usize) -> usize
     requires { i < rows table.now }
     ensures { (result ≡ kind table.now i) × (result < 4294967296) }

@@ -211,6 +211,7 @@ impl<'a, const NAMES: usize> Pass<'a, NAMES> {
         let parent = parent_at(self.table, row);
         self.last[row] = row as u16;
         self.last[parent] = end_at(self.table, row) as u16;
+        // By hand and no `for`: what a pass knows is of its own row.
         self.row += 1;
         if is_attribute(self.table, row) {
             self.seen[name_at(self.table, row)] = parent as u16;
