@@ -1,4 +1,5 @@
-// Which rows a chain of steps may come by from a set of rows, by its axes and tests alone, whatever its predicates say.
+// Which rows a chain of steps may come by from a set of rows, by its axes and tests alone, whatever its predicates say. An edition, a table
+// and a path stay three parameters of these two functions: the struct that holds them stands above, in select, with literals beside them.
 #![tactic(auto)]
 
 ghost use Rattle.std.specs.Prelude.{◌≡◌, length};

@@ -1,5 +1,6 @@
 // A set of nodes as marks: mark y says whether node y is in the set. Lists of nodes are the marked rows, ascending. Marks are joined by &
-// and |, which read both sides, so that no branch hangs on a mark.
+// and |, which read both sides, so that no branch hangs on a mark. Sets stay slices with a clause on their length: a set of an old limit
+// has to fail a proof and not a type.
 #![tactic(auto)]
 
 ghost use Rattle.std.specs.Prelude.{◌≡◌, false, cond, ◌||◌, ◌++◌, ℕ, ◌<◌, ◌≤◌, length, get_or, take, drop};

@@ -153,7 +153,7 @@ fn mark_later_siblings(table: &[u32], marks: &mut [bool])
     }
 }
 
-// The same from the last row down.
+// The same from the last row down: what the loop keeps is of the rows after i, so the two orders stay two loops over one body.
 fn mark_earlier_siblings(table: &[u32], marks: &mut [bool])
     requires { Room table.now marks.old }
     ensures { Hits table.now (on table.now PrecedingSibling) marks.old marks.new }
@@ -163,6 +163,9 @@ fn mark_earlier_siblings(table: &[u32], marks: &mut [bool])
         pass_sibling(table, i, &mut seen, marks);
     }
 }
+
+// Table and marks stay two slices, with Room to say what is asked of them: a mark array of an old limit has to fail a proof and not a type,
+// and the same marks are lent to other passes between.
 
 // Marks the rows that are on the axis of some row that was marked, and no others. On self every set stays as it is.
 #[tactic(auto, unfolding(meaning::specs::Axis::on, crate::specs::Reach::admitted, crate::specs::Reach::Hits, crate::specs::Reach::hit))]

@@ -1,6 +1,7 @@
 // Truths decided for all rows of a set at once: a state for each row in one array, so that no nested operand needs a buffer.
 // At nesting level l the rows in question have the state 2l, and all others a lower one; where the truth does not hold the
 // state becomes 2l + 1. Tests are joined by &, which reads both sides, so that no branch hangs on a state or a mark.
+// The arrays are as long as a table may be, and n says how many of them are rows: memory is fixed.
 #![tactic(auto)]
 
 ghost use Rattle.std.specs.Prelude.{◌≡◌, ℕ, false, cond, ◌+◌, ◌<◌, ◌≤◌, length, get_or, drop};
