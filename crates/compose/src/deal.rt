@@ -12,6 +12,10 @@ use crate::desk::{
 };
 use crate::kinds::{CLOSING, CLOSING_SQUARE, FUNCTION_NAME, MINUS, OPENING, OPENING_SQUARE, PLUS};
 use crate::mode::{is_beginning, is_ending, is_signing};
+use crate::ops::{
+    ADD, AND, COUNT, DIVIDE, EQUAL, GREATER, GREATER_EQUAL, LAST, LESS, LESS_EQUAL, MULTIPLY,
+    NEGATE, NEGATION, OR, POSITION, PREDICATE, REMAINDER, SUBTRACT, UNEQUAL,
+};
 use crate::pen::{made_truth, write_row};
 use text::Sort;
 
@@ -69,21 +73,21 @@ fn call_token(
     let hand = bench.hand;
     match number {
         0 => {
-            let done = write_row(hand, rows, 2, 0, 0, 0, 0, Sort::Numeral);
+            let done = write_row(hand, rows, POSITION, 0, 0, 0, 0, Sort::Numeral);
             Bench {
                 hand: done,
                 ..bench
             }
         }
         1 => {
-            let done = write_row(hand, rows, 3, 0, 0, 0, 0, Sort::Numeral);
+            let done = write_row(hand, rows, LAST, 0, 0, 0, 0, Sort::Numeral);
             Bench {
                 hand: done,
                 ..bench
             }
         }
-        2 => push_frame(bench, ops, opens, 21, 0, 0),
-        3 => push_frame(bench, ops, opens, 18, 0, 0),
+        2 => push_frame(bench, ops, opens, COUNT, 0, 0),
+        3 => push_frame(bench, ops, opens, NEGATION, 0, 0),
         4 => {
             open_truth(bench.height, opens);
             bench
@@ -138,13 +142,27 @@ fn minus_token(
         opens.new 4 }
 {
     if is_signing(mode) {
-        return push_frame(bench, ops, opens, 9, 0, 0);
+        return push_frame(bench, ops, opens, NEGATE, 0, 0);
     }
-    operator_token(5, bench, rows, ops, opens)
+    operator_token(SUBTRACT, bench, rows, ops, opens)
 }
 
 // The ops of the binary operators, in the order of their classes.
-const OPERATIONS: [u32; 13] = [4, 5, 10, 11, 12, 13, 14, 15, 6, 16, 17, 7, 8];
+const OPERATIONS: [u32; 13] = [
+    ADD,
+    SUBTRACT,
+    EQUAL,
+    UNEQUAL,
+    LESS,
+    LESS_EQUAL,
+    GREATER,
+    GREATER_EQUAL,
+    MULTIPLY,
+    AND,
+    OR,
+    DIVIDE,
+    REMAINDER,
+];
 
 fn operation_of(kind: usize) -> u32
     requires { (20 ≤ kind) × (kind < 33) }
@@ -180,7 +198,7 @@ pub fn desk_token(
             bench
         }
         CLOSING => close_token(mode, bench, rows, ops, opens),
-        OPENING_SQUARE => push_frame(bench, ops, opens, 25, 0, 0),
+        OPENING_SQUARE => push_frame(bench, ops, opens, PREDICATE, 0, 0),
         CLOSING_SQUARE => square_token(bench, rows, ops, opens),
         FUNCTION_NAME => call_token(number, bench, rows, ops, opens),
         _ => bench,

@@ -5,6 +5,7 @@ ghost use Rattle.std.proofs.lemmas.List.Edits.{sets};
 ghost use Rattle.text.specs.Composing.{strength_of, settled, push, open_group, open_truth, close_round, close_square, paths_in};
 ghost use Rattle.compose.specs.Standing.{frames_of, row_room, op_room, open_room, load, Worked, top_fills, filled, close_call, Countable, Opened};
 
+use crate::ops::{ABSOLUTE, NEGATION, RELATIVE};
 use crate::pen::{fill_row, made_predicate, made_truth, write_row};
 use crate::{Bench, Hand};
 use text::Sort;
@@ -149,7 +150,7 @@ fn close_call(bench: Bench, rows: &mut [u32], ops: &[u32]) -> Bench
     let top = bench.height - 1;
     let hand = bench.hand;
     let op = ops[4 * top];
-    if op == 18 {
+    if op == NEGATION {
         let truth = made_truth(hand, rows);
         let done = write_row(truth, rows, op, truth.link, 0, 0, 0, Sort::Truth);
         return Bench {
@@ -229,7 +230,7 @@ pub fn paths_in(ops: &[u32], height: usize) -> usize
     let mut count = 0;
     for i in 0..height {
         let op = ops[4 * i];
-        if op == 22 || op == 23 {
+        if op == RELATIVE || op == ABSOLUTE {
             count += 1;
         }
     }

@@ -7,6 +7,7 @@ mod deal;
 mod desk;
 mod kinds;
 mod mode;
+mod ops;
 mod pass;
 mod pen;
 mod read;

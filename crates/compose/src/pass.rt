@@ -8,6 +8,7 @@ ghost use Rattle.compose.specs.Deals.{Roomy};
 ghost use Rattle.compose.specs.Words.{Plain, Spelled};
 ghost use Rattle.compose.specs.Passes.{Passes, nothing_read};
 
+use crate::ops::CHILD;
 use crate::read::read_token;
 use crate::words::{number_value, word_number};
 use crate::{Bench, Hand, Passed, State};
@@ -22,7 +23,7 @@ fn start() -> State
 {
     State {
         mode: 0,
-        axis: 1,
+        axis: CHILD,
         literals: 0,
         deepest: 0,
         bench: Bench {

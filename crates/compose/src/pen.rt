@@ -5,6 +5,7 @@ ghost use Rattle.text.specs.Composing.{frame, put, truthful, predicable, row_of}
 ghost use Rattle.compose.specs.Standing.{row_room, Penned};
 
 use crate::Hand;
+use crate::ops::{EXISTS, GREATER_EQUAL, NEGATE, RELATIVE, STEP, TRUTH_OF};
 use text::Sort;
 
 fn store_row(rows: &mut [u32], at: usize, op: u32, a: u32, b: u32, c: u32, d: u32)
@@ -43,21 +44,21 @@ pub fn write_row(
     }
 }
 
-// Where a truth is wanted, a number gets op 19 and a path op 20.
+// Where a truth is wanted, it is made of a number or of a path.
 pub fn made_truth(hand: Hand, rows: &mut [u32]) -> Hand
     requires { (hand.rows < 520) × (length rows.old ≡ row_room) }
     ensures { Penned hand rows.old truthful result rows.new 1 }
 {
     let sort = hand.sort;
     match sort {
-        Sort::Numeral => write_row(hand, rows, 19, hand.link, 0, 0, 0, Sort::Truth),
+        Sort::Numeral => write_row(hand, rows, TRUTH_OF, hand.link, 0, 0, 0, Sort::Truth),
         Sort::Truth => hand,
-        Sort::Nodes => write_row(hand, rows, 20, hand.link, 0, 0, 0, Sort::Truth),
+        Sort::Nodes => write_row(hand, rows, EXISTS, hand.link, 0, 0, 0, Sort::Truth),
         Sort::Unheld => hand,
     }
 }
 
-// A path that is a whole predicate gets op 20.
+// Of a path that is a whole predicate a truth is made.
 pub fn made_predicate(hand: Hand, rows: &mut [u32]) -> Hand
     requires { (hand.rows < 520) × (length rows.old ≡ row_room) }
     ensures { Penned hand rows.old predicable result rows.new 1 }
@@ -66,7 +67,7 @@ pub fn made_predicate(hand: Hand, rows: &mut [u32]) -> Hand
     match sort {
         Sort::Numeral => hand,
         Sort::Truth => hand,
-        Sort::Nodes => write_row(hand, rows, 20, hand.link, 0, 0, 0, Sort::Truth),
+        Sort::Nodes => write_row(hand, rows, EXISTS, hand.link, 0, 0, 0, Sort::Truth),
         Sort::Unheld => hand,
     }
 }
@@ -76,19 +77,19 @@ pub fn fill_row(hand: Hand, rows: &mut [u32], op: u32, a: u32, c: u32, d: u32) -
     requires { (hand.rows < 519) × (length rows.old ≡ row_room) }
     ensures { Penned hand rows.old (row_of (frame op a c d 0 0)) result rows.new 2 }
 {
-    if op == 24 {
+    if op == STEP {
         return write_row(hand, rows, op, a, hand.link, c, d, Sort::Unheld);
     }
-    if 22 <= op {
+    if RELATIVE <= op {
         return write_row(hand, rows, op, hand.link, 0, 0, 0, Sort::Nodes);
     }
-    if op == 9 {
+    if op == NEGATE {
         return write_row(hand, rows, op, hand.link, 0, 0, 0, Sort::Numeral);
     }
-    if op <= 9 {
+    if op <= NEGATE {
         return write_row(hand, rows, op, a, hand.link, 0, 0, Sort::Numeral);
     }
-    if op <= 15 {
+    if op <= GREATER_EQUAL {
         return write_row(hand, rows, op, a, hand.link, 0, 0, Sort::Truth);
     }
     let truth = made_truth(hand, rows);

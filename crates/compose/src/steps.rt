@@ -11,6 +11,9 @@ ghost use Rattle.compose.specs.Deals.{Roomy, of_step};
 use crate::desk::{paths_in, push_frame, settle_frames};
 use crate::kinds::{AT, AXIS_NAME, DOT, DOTS, SLASHES};
 use crate::mode::is_beginning;
+use crate::ops::{
+    ABSOLUTE, CHILD, DESCENDANT_OR_SELF, ITSELF, LITERAL_ROW, PARENT, RELATIVE, STEP,
+};
 use crate::pen::write_row;
 use crate::{Bench, State};
 use literals::index_of;
@@ -53,7 +56,7 @@ fn point_token(state: State, mode: usize, axis: u32, rows: &mut [u32]) -> State
 {
     let bench = state.bench;
     let hand = bench.hand;
-    let done = write_row(hand, rows, 24, hand.link, 0, axis, 0, Sort::Unheld);
+    let done = write_row(hand, rows, STEP, hand.link, 0, axis, 0, Sort::Unheld);
     let next = Bench {
         hand: done,
         ..bench
@@ -79,10 +82,10 @@ fn test_token(state: State, mode: usize, test: u32, ops: &mut [u32], opens: &mut
     ensures { (result.mode ≡ mode) × ((rows : List ℕ) (values : List Float) → Read state rows ops.old opens.old values
         (test_read (mode_of mode) test) result rows ops.new opens.new values 2) }
 {
-    let bench = push_frame(state.bench, ops, opens, 24, state.axis, test);
+    let bench = push_frame(state.bench, ops, opens, STEP, state.axis, test);
     State {
         mode,
-        axis: 1,
+        axis: CHILD,
         bench,
         ..state
     }
@@ -118,10 +121,10 @@ pub fn step_token(
         → Read state rows.old ops.old opens.old values (λ w. compose_token s w i (class_of kind)) result
         rows.new ops.new opens.new values 4) }
 {
-    let begun = path_from(state, ops, opens, 22);
+    let begun = path_from(state, ops, opens, RELATIVE);
     match kind {
-        DOT => point_token(begun, mode, 0, rows),
-        DOTS => point_token(begun, mode, 2, rows),
+        DOT => point_token(begun, mode, ITSELF, rows),
+        DOTS => point_token(begun, mode, PARENT, rows),
         AT => axis_token(begun, mode, number),
         AXIS_NAME => axis_token(begun, mode, number),
         _ => test_token(begun, mode, number, ops, opens),
@@ -143,10 +146,10 @@ pub fn slash_token(
         → Read state rows.old ops.old opens.old values (λ w. compose_token s w i (class_of kind)) result
         rows.new ops.new opens.new values 4) }
 {
-    let begun = path_from(state, ops, opens, 23);
+    let begun = path_from(state, ops, opens, ABSOLUTE);
     let ended = step_ended(begun, rows, ops, opens);
     if kind == SLASHES {
-        return point_token(ended, mode, 5, rows);
+        return point_token(ended, mode, DESCENDANT_OR_SELF, rows);
     }
     let bench = ended.bench;
     moved_to(ended, mode, bench)
@@ -180,7 +183,16 @@ pub fn number_token(
     let index = index_of(values, n, value);
     let literals = keep_value(values, n, index, value);
     let bench = state.bench;
-    let done = write_row(bench.hand, rows, 1, index as u32, 0, 0, 0, Sort::Numeral);
+    let done = write_row(
+        bench.hand,
+        rows,
+        LITERAL_ROW,
+        index as u32,
+        0,
+        0,
+        0,
+        Sort::Numeral,
+    );
     let next = Bench {
         hand: done,
         ..bench

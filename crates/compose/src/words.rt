@@ -7,6 +7,7 @@ ghost use Rattle.compose.specs.Standing.{word_number};
 ghost use Rattle.compose.specs.Words.{Spelled};
 
 use crate::kinds::{AT, AXIS_NAME, FUNCTION_NAME, INSTRUCTION, NAME_TEST, NODE_TYPE, NUMBER};
+use crate::ops::ATTRIBUTE;
 use names::Names;
 use tokens::{axis_number, function_number, is_star, type_number};
 
@@ -30,7 +31,7 @@ pub fn word_number(text: &[u8], names: &Names, kind: usize, begin: usize, end: u
         → result ≡ word_number (source text.now names.now.list.now) i kind }
 {
     match kind {
-        AT => 11,
+        AT => ATTRIBUTE,
         NAME_TEST => name_number(text, names, begin, end),
         NODE_TYPE => type_number(text, begin, end) as u32,
         INSTRUCTION => 4,

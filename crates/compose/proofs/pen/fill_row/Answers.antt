@@ -4,38 +4,38 @@ use native.Mathlib.Omega.{arith}
 use Rattle.compose.proofs.Rows.{penned_as, penned_then, fill_step, fill_path, fill_sign, fill_number, fill_test, fill_truth}
 use Rattle.compose.proofs.pen.fill_row.Goals as goal
 
-pub returns-then-op-eq24 : goal.returns-then-op-eq24
-returns-then-op-eq24 c =
+pub returns-then-op-eq-STEP : goal.returns-then-op-eq-STEP
+returns-then-op-eq-STEP c =
     let g = c.args in
     penned_as _ 2 c.write_row.ensures
-    (fill_step g.hand g.rows.now g.op g.a g.c g.d c.if-op-eq24.true) (omega arith)
+    (fill_step g.hand g.rows.now g.op g.a g.c g.d c.if-op-eq-STEP.true) (omega arith)
 
-pub returns-then-op-ge22 : goal.returns-then-op-ge22
-returns-then-op-ge22 c =
+pub returns-then-op-ge-RELATIVE : goal.returns-then-op-ge-RELATIVE
+returns-then-op-ge-RELATIVE c =
     let g = c.args in
-    penned_as _ 2 c.write_row-then-op-ge22.ensures
-    (fill_path g.hand g.rows.now g.op g.a g.c g.d c.if-op-eq24.false
-    c.if-op-ge22.true) (omega arith)
+    penned_as _ 2 c.write_row-then-op-ge-RELATIVE.ensures
+    (fill_path g.hand g.rows.now g.op g.a g.c g.d c.if-op-eq-STEP.false
+    c.if-op-ge-RELATIVE.true) (omega arith)
 
-pub returns-then-op-eq9 : goal.returns-then-op-eq9
-returns-then-op-eq9 c =
+pub returns-then-op-eq-NEGATE : goal.returns-then-op-eq-NEGATE
+returns-then-op-eq-NEGATE c =
     let g = c.args in
-    penned_as _ 2 c.write_row-then-op-eq9.ensures
-    (fill_sign g.hand g.rows.now g.op g.a g.c g.d c.if-op-eq9.true) (omega arith)
+    penned_as _ 2 c.write_row-then-op-eq-NEGATE.ensures
+    (fill_sign g.hand g.rows.now g.op g.a g.c g.d c.if-op-eq-NEGATE.true) (omega arith)
 
-pub returns-then-op-le9 : goal.returns-then-op-le9
-returns-then-op-le9 c =
+pub returns-then-op-le-NEGATE : goal.returns-then-op-le-NEGATE
+returns-then-op-le-NEGATE c =
     let g = c.args in
-    penned_as _ 2 c.write_row-then-op-le9.ensures
-    (fill_number g.hand g.rows.now g.op g.a g.c g.d c.if-op-eq9.false
-    c.if-op-le9.true) (omega arith)
+    penned_as _ 2 c.write_row-then-op-le-NEGATE.ensures
+    (fill_number g.hand g.rows.now g.op g.a g.c g.d c.if-op-eq-NEGATE.false
+    c.if-op-le-NEGATE.true) (omega arith)
 
-pub returns-then-op-le15 : goal.returns-then-op-le15
-returns-then-op-le15 c =
+pub returns-then-op-le-GREATER_EQUAL : goal.returns-then-op-le-GREATER_EQUAL
+returns-then-op-le-GREATER_EQUAL c =
     let g = c.args in
-    penned_as _ 2 c.write_row-then-op-le15.ensures
-    (fill_test g.hand g.rows.now g.op g.a g.c g.d c.if-op-le9.false
-    c.if-op-le15.true) (omega arith)
+    penned_as _ 2 c.write_row-then-op-le-GREATER_EQUAL.ensures
+    (fill_test g.hand g.rows.now g.op g.a g.c g.d c.if-op-le-NEGATE.false
+    c.if-op-le-GREATER_EQUAL.true) (omega arith)
 
 pub returns : goal.returns
 returns c =
@@ -43,4 +43,4 @@ returns c =
     let truth = c.made_truth-truth.ensures in
     penned_as _ 2 (penned_then truth c.write_row-2.ensures)
     (fill_truth g.hand g.rows.now g.op g.a g.c g.d _ _ truth.pen_is
-    c.if-op-le15.false (omega arith)) (omega arith)
+    c.if-op-le-GREATER_EQUAL.false (omega arith)) (omega arith)

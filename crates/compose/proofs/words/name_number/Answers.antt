@@ -1,5 +1,5 @@
 -- `compose::words::name_number`: a name is in the list, and its number is at most 65,535.
-use Rattle.std.proofs.Common.{◌≡◌, sym, ap, ◌∙◌, ◌≤◌, ◌<◌, cond, arith}
+use Rattle.std.proofs.Common.{sym, ap, ◌∙◌, arith}
 use Rattle.std.specs.Option.{unwrap_or}
 use Rattle.names.specs.Names.{names_of, is_named, number_of}
 use Rattle.text.specs.Tokens.{between}
