@@ -1,6 +1,6 @@
 -- Laws of decimals: how digits grow, and the two round trips, from a number to its digits and back and from digits to their number and back.
 -- Assumes nothing.
-use Prim.Native.Nat.{ℕ, zero, suc, ◌+◌, ◌-◌, ◌*◌, ◌/◌, ◌%◌, ◌^◌, ◌<◌, ◌≤◌, min, max}
+use Prim.Native.Nat.{ℕ, zero, suc, ◌+◌, ◌-◌, ◌*◌, ◌/◌, ◌%◌, ◌^◌, ◌<◌, ◌≤◌, min}
 use native.Mathlib.Omega.{arith}
 use native.Mathlib.Nat.{not-suc-le-zero}
 use native.Mathlib.Numerals.{add-one}
@@ -74,55 +74,8 @@ width_within (suc k) n h =
     (λ (l : 10 ≤ n). let i : length (digits (n / 10)) ≤ suc k = width_within k (n / 10) (omega arith) in rw (width_more n l) (omega arith))
     (lt_or_ge n 10)
 
-width_above : (k n : ℕ) → 10 ^ k ≤ n → suc k ≤ length (digits n)
-width_above zero n h = width_some n
-width_above (suc k) n h =
-    ⊎_elim
-    (λ (l : n < 10). absurd (omega (arith, power_some k)))
-    (λ (l : 10 ≤ n). let i : suc k ≤ length (digits (n / 10)) = width_above k (n / 10) (omega arith) in rw (width_more n l) (omega arith))
-    (lt_or_ge n 10)
-  where
-    power_some : (k : ℕ) → 0 < 10 ^ k
-    power_some zero = omega arith
-    power_some (suc k) = let h : 0 < 10 ^ k = power_some k in omega arith
-
--- the width by the power of ten below
-pub width_power : (k n : ℕ) → 10 ^ k ≤ max n 1 → max n 1 < 10 * 10 ^ k → length (digits n) ≡ k + 1
-width_power k n h g =
-    ⊎_elim
-    (λ (l : n < 1).
-    let e : max n 1 ≡ 1 = omega arith in
-    let z : length (digits n) ≡ length (digits (max n 1)) = rw (width_few n (omega arith), width_few (max n 1) (omega arith)) in
-    let a : suc k ≤ length (digits (max n 1)) = width_above k (max n 1) h in
-    let b : length (digits (max n 1)) ≤ suc k = width_within k (max n 1) (omega arith) in
-    omega arith)
-    (λ (l : 1 ≤ n).
-    let e : max n 1 ≡ n = omega arith in
-    let a : suc k ≤ length (digits n) = width_above k n (rw e at h) in
-    let b : length (digits n) ≤ suc k = width_within k n (omega arith) in
-    omega arith)
-    (lt_or_ge n 1)
-
 pub width_ten : (n : ℕ) → n ≤ most_number → length (digits n) ≤ 10
 width_ten n h = width_within 9 n (omega arith)
-
--- the last so many digits of n, zeros where it has fewer
-unfoldable pub last_digits : ℕ → ℕ → List ℕ
-last_digits zero n = []
-last_digits (suc k) n = last_digits k (n / 10) ++ ((48 + n % 10) ∷ [])
-
-pub length_last : (k n : ℕ) → length (last_digits k n) ≡ k
-unfolding last_digits
-length_last zero n = refl
-length_last (suc k) n = let e : length (last_digits k (n / 10)) ≡ k = length_last k (n / 10) in rw length-append (omega arith)
-
--- as many as n has are all of them
-pub last_all : (n : ℕ) → last_digits (length (digits n)) n ≡ digits n
-unfolding last_digits
-last_all =
-    tens (λ n. last_digits (length (digits n)) n ≡ digits n)
-    (λ n h. let e : n % 10 ≡ n = omega arith in rw (width_few n h, digits_few n h, e))
-    (λ n h e. rw (width_more n h, add-one, digits_more n h, e))
 
 -- ---- numbers of digits
 
@@ -345,13 +298,12 @@ pub reading_starts : (text : List ℕ) → Reading text 0 0
 reading_starts text = record { placed = omega arith; counted = refl }
 
 pub reading_more : (text : List ℕ) (value count : ℕ) → Reading text value count → is_digit (get_or text count 0) ≡ true
-    → Reading text (value * 10 + (get_or text count 0 - 48)) (count + 1)
+    → Reading text (10 * value + (get_or text count 0 - 48)) (count + 1)
 unfolding number_from
 reading_more text value count r e =
     let l : leading (drop count text) ≡ get_or text count 0 ∷ leading (drop (count + 1) text) = leading_at text count e in
     let p : count + suc (length (leading (drop (count + 1) text))) ≡ length (leading text) = rw l at r.placed in
-    let m : value * 10 + (get_or text count 0 - 48) ≡ 10 * value + (get_or text count 0 - 48) = omega arith in
-    record { placed = omega arith; counted = rw m (rw l at r.counted) }
+    record { placed = omega arith; counted = rw l at r.counted }
 
 -- a number that is too large stays so with more digits behind it
 pub reading_large : (text : List ℕ) (value count : ℕ) → Reading text value count → most_number < value → most_number < number (leading text)

@@ -1,14 +1,13 @@
 -- Laws of what is laid into a slice: its length stays, what is laid behind something is laid with it, nothing changes nothing, one entry is a
 -- store.
 -- Assumes nothing.
-use Prim.Native.Nat.{ℕ, suc, ◌+◌, ◌-◌, ◌/◌, ◌%◌, ◌<◌, ◌≤◌}
+use Prim.Native.Nat.{ℕ, suc, ◌+◌, ◌<◌, ◌≤◌}
 use native.Mathlib.Omega.{arith}
-use mathlib.Core.Path.{◌≡◌, sym, ap, ◌∙◌}
+use mathlib.Core.Path.{◌≡◌, sym, ◌∙◌}
 use mathlib.Core.List.{List, [], ◌∷◌, ◌++◌, append_assoc, append-nil}
 use lib.ListN.{length, take, drop, set, length-append, length-drop, take-append-drop}
 use lib.Seq.{append_snoc, length-take-le, set_split, take-set-le, take_at, drop_at, drop-drop}
 use Rattle.decimal.specs.Decimal.{laid}
-use Rattle.decimal.proofs.Decimals.{last_digits, length_last}
 
 module _ (out : List ℕ) (i : ℕ) (s : List ℕ) where
   -- what stands before and what is laid
@@ -58,15 +57,3 @@ pub laid_one : (out : List ℕ) (i b : ℕ) → i < length out → set out i b �
 laid_one out i b h =
     let n : i + 1 ≡ suc i = omega arith in
     set_split out i b h ∙ rw n (sym (append_snoc (take i out) b (drop (suc i) out)))
-
--- the last digit of a number, stored before those that are behind it: the digits in front of it are those of a tenth
-pub laid_last : (out : List ℕ) (at i n : ℕ) → at < i → i ≤ length out → laid (set out (i - 1) (48 + n % 10)) at (last_digits (i - 1 - at) (n / 10)) ≡ laid out at (last_digits (i - at) n)
-unfolding last_digits
-laid_last out at i n h g =
-    let s = last_digits (i - 1 - at) (n / 10) in
-    let m : length s ≡ i - 1 - at = length_last (i - 1 - at) (n / 10) in
-    let k : i - 1 ≡ at + length s = omega arith in
-    let e : i - at ≡ suc (i - 1 - at) = omega arith in
-    ap (λ (z : ℕ). laid (set out z (48 + n % 10)) at s) k
-    ∙ laid_before out at s (48 + n % 10) (omega arith)
-    ∙ ap (λ (z : ℕ). laid out at (last_digits z n)) (sym e)

@@ -6,7 +6,6 @@ use Prim.Native.String.{String}
 use native.Mathlib.Omega.{arith}
 use native.Mathlib.Numerals.{add-one}
 use mathlib.Core.Path.{◌≡◌, refl, sym, ap, ◌∙◌}
-use mathlib.Core.Logic.{◌⊎◌, inl, inr, ⊎_elim}
 use mathlib.Core.Bool.{Bool, true, false, cond}
 use mathlib.Core.List.{List, [], ◌∷◌, ◌++◌, append_assoc, append-nil}
 use lib.ListN.{length, get_or, take, drop, length-append, take-append-drop}
@@ -16,7 +15,7 @@ use borrow.Author.Tests.{eqb-false, ne_eqb}
 use Rattle.meaning.specs.Lists.{some, has}
 use Rattle.meaning.specs.Table.{rows}
 use Rattle.meaning.proofs.Lists.{some_append}
-use Rattle.meaning.proofs.Bools.{or_none_l, or_none_r, eq_or_ne}
+use Rattle.meaning.proofs.Bools.{or_none_l, or_none_r}
 use Rattle.decimal.specs.Decimal.{ascii, digits, leading, number}
 use Rattle.decimal.proofs.Decimals.{Digits, first_digit, digits_digits, leading_append, number_digits}
 use Rattle.files.specs.Files.{line, key, number_lines, table_lines, joined, bytes_of, onto, lines_of}
@@ -59,9 +58,6 @@ last_key i a b c = by (i % 4) (omega arith) a b c
     by (suc zero) h a b c = absurd (b refl)
     by (suc (suc zero)) h a b c = absurd (c refl)
     by (suc (suc (suc r))) h a b c = omega arith
-
-pub key_case : (i : ℕ) → (i % 4 ≡ 0) ⊎ ((i % 4 ≡ 1) ⊎ ((i % 4 ≡ 2) ⊎ (i % 4 ≡ 3)))
-key_case i = ⊎_elim inl (λ a. inr (⊎_elim inl (λ b. inr (⊎_elim inl (λ c. inr (last_key i a b c)) (eq_or_ne (i % 4) 2))) (eq_or_ne (i % 4) 1))) (eq_or_ne (i % 4) 0)
 
 -- what holds of the four keys holds of every number's
 pub each_key : (P : String → Type 0) → P "kind" → P "name" → P "parent" → P "size" → (i : ℕ) → P (key i)

@@ -10,7 +10,7 @@ use lib.Dec.{ltb}
 use borrow.Author.Tests.{lt-ltb, le-ltb, eq-eqb, ne_eqb}
 use Rattle.meaning.specs.Lists.{up_to, some, lowest}
 use Rattle.meaning.specs.Table.{rows, most_rows, length_allowed, broken}
-use Rattle.meaning.specs.Answers.{answer, refused, table_answer, table_checks, output}
+use Rattle.meaning.specs.Answers.{answer, table_answer, table_checks, output}
 use Rattle.meaning.specs.declared.Answer.{Answer}
 use Rattle.meaning.proofs.Bools.{is_true}
 use Rattle.meaning.proofs.Checks.{table_passes, table_stops}

@@ -1,8 +1,9 @@
 -- Laws of writing: the lengths of lines, and how lines are laid into an output one behind the other.
 -- Assumes nothing.
-use Prim.Native.Nat.{ℕ, ◌+◌, ◌-◌, ◌≤◌}
+use Prim.Native.Nat.{ℕ, ◌+◌, ◌-◌, ◌%◌, ◌≤◌}
 use native.Mathlib.Omega.{arith}
 use mathlib.Core.Path.{◌≡◌, sym, ◌∙◌}
+use mathlib.Core.Logic.{⊎_elim}
 use mathlib.Core.List.{List, [], ◌∷◌, ◌++◌, append_assoc, append-nil}
 use lib.ListN.{length, take, drop, set, length-append, length-drop}
 use lib.Seq.{take-length, take_all, drop-length, drop-drop}
@@ -13,7 +14,8 @@ use Rattle.decimal.proofs.Decimals.{width_few}
 use Rattle.decimal.proofs.Laid.{length_laid, laid_laid, laid_one}
 use Rattle.files.specs.Files.{line, key, number_lines, joined, bytes_of}
 use Rattle.files.specs.Parts.{keyed, heading}
-use Rattle.files.proofs.Lines.{each_key}
+use Rattle.meaning.proofs.Bools.{eq_or_ne}
+use Rattle.files.proofs.Lines.{key_at, last_key}
 
 -- ---- lengths
 
@@ -32,9 +34,22 @@ heading_length t =
     let n : length (line "nodes" (rows t)) ≡ 7 + length (digits (rows t)) = keyed_length (ascii "nodes=") (rows t) ∙ omega arith in
     length_two (line "edition" 1) (line "nodes" (rows t)) ∙ rw (e, n) (omega arith)
 
--- no key is longer than that of a parent
-pub key_short : (i : ℕ) → length (ascii (key i) ++ ascii "=") ≤ 7
-key_short = each_key (λ k. length (ascii k ++ ascii "=") ≤ 7) (omega arith) (omega arith) (omega arith) (omega arith)
+-- the line of a parent is two bytes longer than the others
+pub line_parent : (i n : ℕ) → i % 4 ≡ 2 → length (line (key i) n) ≡ 8 + length (digits n)
+unfolding line key
+line_parent i n e = rw (key_at i 2 e) (keyed_length (ascii "parent=") n ∙ omega arith)
+
+pub line_other : (i n : ℕ) → (i % 4 ≡ 2 → ⊥) → length (line (key i) n) ≡ 6 + length (digits n)
+unfolding line key
+line_other i n e =
+    ⊎_elim
+    (λ (a : i % 4 ≡ 0). rw (key_at i 0 a) (keyed_length (ascii "kind=") n ∙ omega arith))
+    (λ (a : i % 4 ≡ 0 → ⊥).
+    ⊎_elim
+    (λ (b : i % 4 ≡ 1). rw (key_at i 1 b) (keyed_length (ascii "name=") n ∙ omega arith))
+    (λ (b : i % 4 ≡ 1 → ⊥). rw (key_at i 3 (last_key i a b e)) (keyed_length (ascii "size=") n ∙ omega arith))
+    (eq_or_ne (i % 4) 1))
+    (eq_or_ne (i % 4) 0)
 
 -- ---- laying
 

@@ -4,10 +4,8 @@
 mod reader;
 mod writer;
 
-ghost use Rattle.std.specs.Prelude.{◌≡◌, ◌++◌};
+ghost use Rattle.std.specs.Prelude.{◌≡◌};
 ghost use Rattle.meaning.specs.Answers.{answer};
-ghost use Rattle.decimal.specs.Decimal.{ascii};
-ghost use Rattle.files.specs.Files.{key};
 ghost use Rattle.files.specs.Answers.{file_refused, file_told};
 ghost use Rattle.files.specs.declared.FileRefusal.TheVariants.{Table};
 
@@ -67,14 +65,4 @@ impl From<Result<u64, FileRefusal>> for WideAnswer {
             Err(refusal) => WideAnswer::from(refusal),
         }
     }
-}
-
-// The keys of a row's numbers, each with its `=`.
-const KEYS: [&[u8]; 4] = [b"kind=", b"name=", b"parent=", b"size="];
-
-// The key of number i of a table.
-fn key(i: usize) -> &'static [u8]
-    ensures { result.now ≡ ascii (key i) ++ ascii "=" }
-{
-    KEYS[i % 4]
 }

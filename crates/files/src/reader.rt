@@ -7,7 +7,7 @@ ghost use Rattle.files.specs.Files.{key, holdable, good};
 ghost use Rattle.files.specs.Answers.{file_told, reading, ReadsTable};
 ghost use Rattle.files.specs.Parts.{begins, LineAt, Passed, HeadOf, NumbersOf};
 
-use crate::{FileRefusal, key};
+use crate::FileRefusal;
 use basics::copy;
 use meaning::MOST_ROWS;
 use table_check::check_table;
@@ -48,12 +48,17 @@ fn read_line(file: &[u8], at: usize, word: &[u8]) -> Option<(u32, usize)>
     Some((n, end + 1))
 }
 
-// Reads the line of number i of a table.
+// Reads the line of number i of a table. Each word stands in its call: compared with one of a table of words files are read slower.
 fn read_number(file: &[u8], at: usize, i: usize) -> Option<(u32, usize)>
     requires { at ≤ length file.now }
     ensures { LineAt (ascii (key i) ++ ascii "=") file.now at result }
 {
-    read_line(file, at, key(i))
+    match i % 4 {
+        0 => read_line(file, at, b"kind="),
+        1 => read_line(file, at, b"name="),
+        2 => read_line(file, at, b"parent="),
+        _ => read_line(file, at, b"size="),
+    }
 }
 
 // Reads the first two lines: how many rows follow, and where; or the one that is bad.

@@ -6,7 +6,7 @@ ghost use Rattle.files.specs.Files.{line, key, number_lines, joined, bytes_of};
 ghost use Rattle.files.specs.Answers.{file_told, WritesTable};
 ghost use Rattle.files.specs.Parts.{keyed};
 
-use crate::{FileRefusal, key};
+use crate::FileRefusal;
 use decimal::width;
 use table_check::check_table;
 
@@ -14,7 +14,8 @@ use table_check::check_table;
 fn line_length(i: usize, n: u32) -> usize
     ensures { (result ≡ length (line (key i) n)) × (result ≤ 18) }
 {
-    key(i).len() + width(n) + 1
+    let around = if i % 4 == 2 { 8 } else { 6 };
+    around + width(n)
 }
 
 // How many bytes the file of a table has.
@@ -50,12 +51,17 @@ fn put_line(out: &mut [u8], at: usize, word: &[u8], n: u32) -> usize
     end + 1
 }
 
-// Writes the line of number i of a table.
+// Writes the line of number i of a table. Each word stands in its call: copied from a table of words files are written slower.
 fn put_number(out: &mut [u8], at: usize, i: usize, n: u32) -> usize
     requires { at + length (line (key i) n) ≤ length out.old }
     ensures { (result ≡ at + length (line (key i) n)) × (out.new ≡ laid out.old at (line (key i) n)) }
 {
-    put_line(out, at, key(i), n)
+    match i % 4 {
+        0 => put_line(out, at, b"kind=", n),
+        1 => put_line(out, at, b"name=", n),
+        2 => put_line(out, at, b"parent=", n),
+        _ => put_line(out, at, b"size=", n),
+    }
 }
 
 // Writes the lines of a table's numbers from an index on.

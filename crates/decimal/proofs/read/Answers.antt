@@ -1,5 +1,5 @@
 -- The answers of `decimal::read`: what its code leaves to show, by the invariant beside this file. Assumes nothing.
-use Rattle.std.proofs.Common.{◌≡◌, ℕ, List, true, false, length, take, get_or, ◌+◌, ◌-◌, ◌*◌, ◌<◌, refl, sym, ◌∙◌, arith, length-take-le}
+use Rattle.std.proofs.Common.{◌≡◌, ℕ, List, true, false, length, take, get_or, ◌<◌, refl, sym, ◌∙◌, arith, length-take-le}
 use mathlib.Core.Logic.{⊎_elim}
 use Rattle.std.proofs.lemmas.Slice.{between_to_end}
 use Rattle.decimal.specs.Decimal.{is_digit, most_number, leading, number, plain}
@@ -24,36 +24,26 @@ loop-byte-init c =
       reading = reading_starts _;
     }
 
-pub returns-in_err-checked_mul : goal.returns-in_err-checked_mul
-returns-in_err-checked_mul c =
+pub returns-then-value-ge-TOO_LARGE : goal.returns-then-value-ge-TOO_LARGE
+returns-then-value-ge-TOO_LARGE c =
     let l = c.loop-byte.invariant in
     let rest : List ℕ = c.in_ok-rest.rest.now in
     let digit = sym c.is_ascii_digit.ensures.value ∙ c.if-not-is_ascii_digit.false in
     let more = reading_more rest c.loop-byte.value c.loop-byte.byte-index l.reading digit in
-    let large : most_number < number (leading rest) = reading_large rest _ _ more (grind (arith, c.in_err-checked_mul.ensures)) in
-    rw c.from_residual-in_err-checked_mul.ensures (sym (read_large c.args.text.now c.args.at (rw (← l.from) large)))
-
-pub returns-in_err-value : goal.returns-in_err-value
-returns-in_err-value c =
-    let l = c.loop-byte.invariant in
-    let rest : List ℕ = c.in_ok-rest.rest.now in
-    let digit = sym c.is_ascii_digit.ensures.value ∙ c.if-not-is_ascii_digit.false in
-    let more = reading_more rest c.loop-byte.value c.loop-byte.byte-index l.reading digit in
-    let large : most_number < number (leading rest) = reading_large rest _ _ more (grind (arith, c.in_err-value.ensures, c.in_ok-checked_mul.ensures)) in
-    rw c.from_residual-in_err-value.ensures (sym (read_large c.args.text.now c.args.at (rw (← l.from) large)))
+    let large : most_number < number (leading rest) = reading_large rest _ _ more (omega arith) in
+    sym (read_large c.args.text.now c.args.at (rw (← l.from) large))
 
 pub loop-byte-preserved : goal.loop-byte-preserved
 loop-byte-preserved c =
     let l = c.loop-byte.invariant in
     let digit = sym c.is_ascii_digit.ensures.value ∙ c.if-not-is_ascii_digit.false in
-    let v : c.in_ok-value.value ≡ c.loop-byte.value * 10 + (get_or c.in_ok-rest.rest.now c.loop-byte.byte-index 0 - 48) = omega (arith, c.in_ok-value.ensures.1, c.in_ok-checked_mul.ensures.1) in
     record {
       from = l.from;
       within = l.within;
       inside = omega arith;
       counts = omega arith;
       bounded = omega arith;
-      reading = rw v (reading_more c.in_ok-rest.rest.now c.loop-byte.value c.loop-byte.byte-index l.reading digit);
+      reading = reading_more c.in_ok-rest.rest.now c.loop-byte.value c.loop-byte.byte-index l.reading digit;
     }
 
 pub slice_bounds-is_plain-end : goal.slice_bounds-is_plain-end

@@ -1,12 +1,27 @@
--- `decimal::width` meets its contract: the power of ten below a number tells how many digits it has.
--- Assumes nothing.
-use Rattle.std.proofs.Common.{◌≡◌, ◌+◌, ◌≤◌, length, arith}
+-- The answers of `decimal::width`: what its code leaves to show, by the invariants beside this file. Assumes nothing.
+use Prim.Native.Nat.{◌+◌, ◌/◌}
+use native.Mathlib.Omega.{arith}
+use mathlib.Core.Path.{◌≡◌}
+use lib.ListN.{length}
 use Rattle.decimal.specs.Decimal.{digits}
-use Rattle.decimal.proofs.Decimals.{width_power, width_ten}
+use Rattle.decimal.proofs.Decimals.{width_few, width_more, width_some, width_ten}
 use Rattle.decimal.proofs.width.Goals as goal
+
+pub loop-rest-init : goal.loop-rest-init
+loop-rest-init c = (omega arith, width_ten c.args.n (omega arith))
+
+pub overflow_add-count : goal.overflow_add-count
+overflow_add-count c = omega arith
+
+pub loop-rest-smaller : goal.loop-rest-smaller
+loop-rest-smaller c = omega arith
+
+pub loop-rest-preserved : goal.loop-rest-preserved
+loop-rest-preserved c =
+    let e : length (digits c.loop-rest.rest) ≡ length (digits (c.loop-rest.rest / 10)) + 1 = width_more c.loop-rest.rest c.loop-rest-test.true in
+    (omega arith, omega arith)
 
 pub returns : goal.returns
 returns c =
-    let w : length (digits c.args.n) ≡ c.ilog10.result + 1 = width_power c.ilog10.result c.args.n (rw c.max.ensures at c.ilog10.ensures.power_le) (rw c.max.ensures at c.ilog10.ensures.next_power_gt) in
-    let t : length (digits c.args.n) ≤ 10 = width_ten c.args.n (omega arith) in
-    (omega arith, omega arith, omega arith)
+    let e : length (digits c.loop-rest.rest) ≡ 1 = width_few c.loop-rest.rest c.loop-rest-test.false in
+    (omega arith, omega (arith, width_some c.args.n), omega arith)

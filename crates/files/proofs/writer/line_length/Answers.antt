@@ -1,16 +1,15 @@
--- `files::writer::line_length` meets its contract: a line is its key, the digits and a line feed.
+-- `files::writer::line_length` meets its contract: the line of a parent is two bytes longer than the others.
 -- Assumes nothing.
-use Rattle.std.proofs.Common.{◌≡◌, ◌+◌, ◌≤◌, length, ap, arith, ◌++◌}
-use Rattle.decimal.specs.Decimal.{ascii, digits}
-use Rattle.files.specs.Files.{line, key}
-use Rattle.files.proofs.Written.{keyed_length, key_short}
+use native.Mathlib.Omega.{arith}
+use Rattle.files.proofs.Written.{line_parent, line_other}
 use Rattle.files.proofs.writer.line_length.Goals as goal
+use Rattle.files.proofs.writer.line_length.Goals.{then-i-eq2, else-i-eq2}
+
+pub overflow_add-result : goal.overflow_add-result
+overflow_add-result c = elim c.if-i-eq2.branch [ then-i-eq2 w ↦ omega arith | else-i-eq2 w ↦ omega arith ]
 
 pub returns : goal.returns
-unfolding line
 returns c =
-    let word = ascii (key c.args.i) ++ ascii "=" in
-    let k : length c.key.result.now ≡ length word = ap length c.key.ensures in
-    let l : length (line (key c.args.i) c.args.n) ≡ length word + length (digits c.args.n) + 1 = keyed_length word c.args.n in
-    let s : length word ≤ 7 = key_short c.args.i in
-    (omega arith, omega arith)
+    let i = c.args.i in
+    let n = c.args.n in
+    elim c.if-i-eq2.branch [ then-i-eq2 w ↦ let e = line_parent i n w.if-i-eq2.true in (omega arith, omega arith) | else-i-eq2 w ↦ let e = line_other i n w.if-i-eq2.false in (omega arith, omega arith) ]

@@ -1,12 +1,41 @@
--- `files::writer::put_number` meets its contract: the key of the number.
+-- `files::writer::put_number` meets its contract: the key by the number's remainder.
 -- Assumes nothing.
-use Rattle.files.specs.Files.{line}
+use Rattle.files.specs.Files.{line, key}
+use Rattle.files.proofs.Lines.{key_at, last_key}
 use Rattle.files.proofs.writer.put_number.Goals as goal
 
 pub put_line-requires : goal.put_line-requires
-unfolding line
-put_line-requires c = rw c.key.ensures c.requires
+unfolding line key
+put_line-requires c = rw (key_at c.args.i 0 c.in-0.is) at c.requires
 
-pub returns : goal.returns
-unfolding line
-returns c = rw c.key.ensures at c.put_line.ensures
+pub put_line-requires-in-1 : goal.put_line-requires-in-1
+unfolding line key
+put_line-requires-in-1 c = rw (key_at c.args.i 1 c.in-1.is) at c.requires
+
+pub put_line-requires-in-2 : goal.put_line-requires-in-2
+unfolding line key
+put_line-requires-in-2 c = rw (key_at c.args.i 2 c.in-2.is) at c.requires
+
+pub put_line-requires-in_default : goal.put_line-requires-in_default
+unfolding line key
+put_line-requires-in_default c =
+    let r = c.in_default.in_default-own.rest in
+    rw (key_at c.args.i 3 (last_key c.args.i r.0.0.1 r.0.1 r.1)) at c.requires
+
+pub returns-in-0 : goal.returns-in-0
+unfolding line key
+returns-in-0 c = rw (key_at c.args.i 0 c.in-0.is) c.put_line.ensures
+
+pub returns-in-1 : goal.returns-in-1
+unfolding line key
+returns-in-1 c = rw (key_at c.args.i 1 c.in-1.is) c.put_line-in-1.ensures
+
+pub returns-in-2 : goal.returns-in-2
+unfolding line key
+returns-in-2 c = rw (key_at c.args.i 2 c.in-2.is) c.put_line-in-2.ensures
+
+pub returns-in_default : goal.returns-in_default
+unfolding line key
+returns-in_default c =
+    let r = c.in_default.in_default-own.rest in
+    rw (key_at c.args.i 3 (last_key c.args.i r.0.0.1 r.0.1 r.1)) c.put_line-in_default.ensures
