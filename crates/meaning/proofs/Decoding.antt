@@ -83,17 +83,6 @@ op_is k n p q = elim (lt_or_ge 25 n) [
     unknown_code : code Unknown ≡ 0
     unknown_code = unfold code in refl
 
--- which ops have a link in field a, and in field b
-pub first_ops : (n : ℕ) → is_link (fields_of (op_of n)).a ≡ (leb 4 n && leb n 25)
-unfolding op_of fields_of is_link some up_to
-first_ops = agree (λ n. is_link (fields_of (op_of n)).a) (λ n. leb 4 n && leb n 25) 26 refl
-    (λ n h. rw (op_past n h, le-leb 4 n (omega arith), lt-leb n 25 h))
-
-pub second_ops : (n : ℕ) → is_link (fields_of (op_of n)).b ≡ (((leb 4 n && leb n 8) || (leb 10 n && leb n 17)) || (eqb n 24 || eqb n 25))
-unfolding op_of fields_of is_link some up_to
-second_ops = agree (λ n. is_link (fields_of (op_of n)).b) (λ n. ((leb 4 n && leb n 8) || (leb 10 n && leb n 17)) || (eqb n 24 || eqb n 25)) 26 refl
-    (λ n h. rw (op_past n h, le-leb 4 n (omega arith), lt-leb n 8 (omega arith), le-leb 10 n (omega arith), lt-leb n 17 (omega arith), ne_eqb n 24 (λ e. omega arith), ne_eqb n 25 (λ e. omega arith)))
-
 -- the axes that run against document order
 pub reverse_axes : (n : ℕ) → is_reverse (axis_of n) ≡ (eqb (n % 2) 0 && (ltb 0 n && leb n 10))
 unfolding axis_of is_reverse some up_to
@@ -107,36 +96,3 @@ principal_kind n = eqb-true (principal (axis_of n)) (cond (eqb n last_axis) 5 1)
     (λ n h. rw (axis_past n h, ne_eqb n last_axis (λ e. omega arith))) n)
 
 -- ---- the sorts of rows, by op
-
--- ops 1 to 9 and 21 are numbers
-pub number_ops : (n : ℕ) → is_number (op_of n) ≡ ((leb 1 n && leb n 9) || eqb n 21)
-unfolding op_of code is_number some up_to
-number_ops = agree (λ n. is_number (op_of n)) (λ n. (leb 1 n && leb n 9) || eqb n 21) 26 refl
-    (λ n h. rw (op_past n h, le-leb 1 n (omega arith), lt-leb n 9 (omega arith), ne_eqb n 21 (λ e. omega arith)))
-
--- ops 10 to 20 are truths
-pub truth_ops : (n : ℕ) → is_truth (op_of n) ≡ (leb 10 n && leb n 20)
-unfolding op_of code is_truth some up_to
-truth_ops = agree (λ n. is_truth (op_of n)) (λ n. leb 10 n && leb n 20) 26 refl
-    (λ n h. rw (op_past n h, le-leb 10 n (omega arith), lt-leb n 20 (omega arith)))
-
--- ops 22 and 23 are paths
-pub path_ops : (n : ℕ) → is_path (op_of n) ≡ (eqb n 22 || eqb n 23)
-unfolding is_path
-path_ops n = rw (op_is 22 n (omega arith) (omega arith), op_is 23 n (omega arith) (omega arith))
-
--- op 24 is a step
-pub step_op : (n : ℕ) → is_step (op_of n) ≡ eqb n 24
-unfolding is_step
-step_op n = op_is 24 n (omega arith) (omega arith)
-
--- op 25 is a predicate
-pub predicate_op : (n : ℕ) → is_predicate (op_of n) ≡ eqb n 25
-unfolding is_predicate
-predicate_op n = op_is 25 n (omega arith) (omega arith)
-
--- 0 and the numbers above 25 are no op
-pub unknown_ops : (n : ℕ) → is_unknown (op_of n) ≡ (eqb n 0 || ltb 25 n)
-unfolding op_of code is_unknown some up_to
-unknown_ops = agree (λ n. is_unknown (op_of n)) (λ n. eqb n 0 || ltb 25 n) 26 refl
-    (λ n h. rw (op_past n h, ne_eqb n 0 (λ e. omega arith), lt-ltb 25 n h))

@@ -30,12 +30,3 @@ equals_itself (inf true) = refl
 equals_itself (inf false) = refl
 equals_itself (fin true m e) = rw (eq-eqb (m * up e * down e) (m * up e * down e) refl)
 equals_itself (fin false m e) = rw (eq-eqb (m * up e * down e) (m * up e * down e) refl)
-
--- the truth of a number, by comparisons alone
-pub nonzero_by : (x : Float) → nonzero x ≡ (Ieee.eq x x && Ieee.ne x (float 0))
-unfolding nonzero Ieee.ne
-nonzero_by x = rw (equals_itself x) (go (is_nan x) (Ieee.eq x (float 0)))
-  where
-    go : (a b : Bool) → not (a || b) ≡ (not a && not b)
-    go true b = refl
-    go false b = refl

@@ -49,27 +49,7 @@ sets_front xs l h = let z : 0 + length xs ≤ length l = omega arith in let e : 
 
 -- ---- inverse axes
 
--- an axis that is none of 1 to 10 has 0
-pub inverse_rest : (n : ℕ) → NoneOf 10 n → 0 ≡ inverse_of n
-unfolding inverse_of
-inverse_rest n f = elim (eq_or_ne n 0) [
-  | inl e ↦ rw e refl
-  | inr z ↦ elim (eq_or_ne n 11) [
-    | inl e ↦ rw e refl
-    | inr e ↦ sym (get_or-eq_default inverses 0 {n = n} (past 11 n (none_past 10 n (omega arith) f) e))
-  ]
-]
-
 -- ---- a row
-
--- an op's number
-pub code_known : (n : ℕ) → n ≤ 25 → n ≡ code (op_of n)
-code_known n h = sym (code_of n h)
-
--- a number above 25 is no op's
-pub code_past : (n : ℕ) → 25 < n → 0 ≡ code (op_of n)
-unfolding code
-code_past n h = rw (op_past n h)
 
 module _ (p : List ℕ) (r n k a b c d : ℕ) (is-op : n ≡ field p r 0) (is_Known : k ≡ code (op_of n)) (is_c : c ≡ index_or_axis p r) (is-d : d ≡ test_at p r) where
   -- the five numbers of a literal's row, and of any other
@@ -128,14 +108,6 @@ module _ (p : List ℕ) (l : ℕ) where
   unfolding predicates
   no_predicates e = rw (e, tree_zero p)
 
-  pub row_predicates : (l ≡ 0 → ⊥) → (b : ℕ) → b ≡ second_link p (l - 1) → tree p b ≡ predicates (tree p l)
-  unfolding predicates
-  row_predicates h b e = rw (tree_row p l h, ← e)
-
   pub no_test : l ≡ 0 → 0 ≡ test (tree p l)
   unfolding test
   no_test e = rw (e, tree_zero p)
-
-  pub row_test : (l ≡ 0 → ⊥) → (d : ℕ) → d ≡ test_at p (l - 1) → d ≡ test (tree p l)
-  unfolding test
-  row_test h d e = rw (tree_row p l h) e

@@ -31,7 +31,7 @@ pub enum Axis {
 }
 
 // The axes in the order of their numbers.
-const AXES: [Axis; 12] = [
+static AXES: [Axis; 12] = [
     Axis::Itself,
     Axis::Child,
     Axis::Parent,
@@ -68,7 +68,7 @@ pub enum Test {
 }
 
 // The tests without a name, in the order of their numbers.
-const TESTS: [Test; 5] = [
+static TESTS: [Test; 5] = [
     Test::AnyNode,
     Test::Star,
     Test::Text,
@@ -122,7 +122,7 @@ pub enum Op {
 }
 
 // The ops in the order of their numbers.
-const OPS: [Op; 26] = [
+static OPS: [Op; 26] = [
     Op::Unknown,
     Op::Literal,
     Op::Position,
