@@ -1,6 +1,6 @@
 -- The members of the cycle meet their contracts: what the check doesn't find alone.
 -- Assumes nothing.
-use Rattle.std.proofs.Common.{◌≡◌, refl, sym, ap, ◌∙◌, ℕ, ◌+◌, ◌<◌, ◌≤◌, Bool, true, false, not, List, length, get_or, take, drop, replicate, length-set, length-take-le, take_all, rules, arith}
+use Rattle.std.proofs.Common.{◌≡◌, refl, sym, ap, ◌∙◌, ℕ, ◌<◌, ◌≤◌, Bool, true, false, not, List, length, get_or, drop, replicate, length-set, length-take-le, take_all, rules, arith}
 use Rattle.std.proofs.lemmas.List.{get_or-replicate, take-append-le}
 use Rattle.meaning.proofs.Evaluation.{kept_by_lem, filtered_none, filtered_row, select_none, select_row, value_none, value_over_path, value_leaf, value_one, value_two, value_decided, walk_none, walk_row}
 use Rattle.meaning.proofs.Filters.{kept_start, kept_skip, kept_more, kept_done}
