@@ -99,7 +99,7 @@ impl<'a> Part<'a> {
         &self.list[at..end] == word
     }
 
-    // The number of a line that is this word: it goes along the chain of its hash.
+    // The number of a line that is this word: it goes along the chain of its hash, so the next number stands in the chain and no for loop counts.
     fn find(&self, word: &[u8]) -> Option<usize>
         ensures { Found self.now.list.now (get_or self.now.nexts.now 0 0) word.now result }
     {
@@ -152,7 +152,7 @@ fn note_start(starts: &mut [usize], line: usize, at: usize)
     }
 }
 
-// Indexes one line more.
+// Indexes one line more. The slices are no struct with their fact: it does not hold between the writes.
 fn add_line(
     list: &[u8],
     heads: &mut [u16],
@@ -175,6 +175,7 @@ fn add_line(
 }
 
 // Indexes the list in slices that have room for it, or gives the number of its first bad line. What the slices held before does not matter.
+// No for loop goes over the lines: where one begins is told by the end of the one before, which may not be ended.
 pub fn index(
     list: &[u8],
     heads: &mut [u16],
