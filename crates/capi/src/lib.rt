@@ -88,6 +88,7 @@ pub extern "C" fn bt_view(
     *count = part.length;
 }
 
+// The places of files have 64 bits, so the next two don't use `tell`.
 #[unsafe(no_mangle)]
 pub extern "C" fn bt_read_table(file: &[u8], out: &mut [u32], place: &mut u64) -> u32
     ensures { ReadsTable most_rows file.now out.old (answer result place.new) out.new }

@@ -109,6 +109,7 @@ pub fn settle_frames(
         opens.now 0 }
 {
     let mut left = bench;
+    // Until nothing more may be filled: it counts no index.
     while may_fill(k, ops, opens, left.height) {
         left = fill_top(left, rows, ops);
     }

@@ -85,6 +85,7 @@ pub fn pass_over(
 {
     let mut state = start();
     let mut next = next_token(text, 0, false);
+    // Until the tokens end: it counts no index.
     while next.kind < 33 {
         state = read_next(text, names, next, state, rows, ops, opens, values);
         if is_full(state) {

@@ -11,3 +11,4 @@ pub mod Unique
 pub mod RoundTrips
 pub mod Limits
 pub mod Cases
+pub mod Copies

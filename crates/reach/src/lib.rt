@@ -62,6 +62,7 @@ fn mark_over(table: &[u32], given: Asked, marks: &mut [bool])
     }
 }
 
+// The next four passes stand apart: each goes its own way over the rows and gathers another number.
 // The rows inside a marked one that are taken, and the marked rows themselves where own: before the furthest end of a marked row behind.
 fn mark_inside(table: &[u32], own: bool, taken: Asked, marks: &mut [bool])
     requires { Room table.now marks.old }

@@ -17,8 +17,8 @@ use text::Fault;
 // What was read: how many rows and how many literals stand at the front of the slices that were lent for them.
 #[derive(Clone, Copy, PartialEq, Eq)]
 pub struct Written {
-    pub rows: usize,
-    pub literals: usize,
+    pub rows: u32,
+    pub literals: u32,
 }
 
 // Why nothing is read: the list of names is bad, first in this line; the text is outside the grammar or has a fault; it has more rows, literals
@@ -55,7 +55,10 @@ fn limits(composed: Composed, room: usize, literal_room: usize) -> Result<Writte
     if literal_room < literals {
         return Err(TextRefusal::NoRoomForLiterals(literals));
     }
-    Ok(Written { rows, literals })
+    Ok(Written {
+        rows: rows as u32,
+        literals: literals as u32,
+    })
 }
 
 // Hands over what was composed, if it is within the limits and there is room.

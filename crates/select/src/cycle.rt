@@ -164,7 +164,7 @@ impl Evaluation<'_> {
         }
     }
 
-    // Decides an and, or where any an or: the rows that the first operand leaves open are raised by a level for the second.
+    // Decides an and, or where any an or, which differ in one state alone: the rows that the first operand leaves open are raised by a level for the second.
     #[cycle(selection)]
     fn decide_pair(&self, link: usize, any: bool, active: u16, states: &mut [u16])
         requires { (0 < link) × (link ≤ most_path_rows) × (active + 2 * link ≤ 1000) × (length states.old ≡ most_rows) × (op_at self.now.path.now (link - 1) ≡ cond any Or And) × Bounded (rows self.now.table.now) active states.old }

@@ -296,6 +296,7 @@ pub fn survey_text(text: &[u8], names: &Names) -> Option<Fault>
         fault: None,
         ended: false,
     };
+    // Until the survey has ended: it counts no index.
     while !s.ended {
         s = advanced(text, names, s, &mut window);
     }

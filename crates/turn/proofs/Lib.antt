@@ -1,2 +1,3 @@
 mod Chain
 mod Answered
+pub mod RowReads

@@ -78,7 +78,7 @@ fn predicates_of(path: &[u32], last: usize) -> usize
 }
 
 // The test of a chain's last step; before the first step stands node().
-#[tactic(auto, using(meaning::proofs::Trees::tree_row, meaning::proofs::Written::no_test), unfolding(meaning::specs::Turning::test))]
+#[tactic(auto, using(meaning::proofs::Trees::tree_row, meaning::proofs::Written::no_test))]
 fn test_of(path: &[u32], last: usize) -> usize
     ensures { (result ≡ test (tree path.now last)) × (result < 4294967296) }
 {
