@@ -10,7 +10,7 @@ ghost use Rattle.axes.specs.Second.{in_second};
 
 use basics::entry;
 use meaning::{Axis, Test};
-use table::{Kind, kind_at, kind_number_at, name_at};
+use table::{Kind, kind_at, name_at, node_kind};
 
 // The parent of any number, and the end of its subtree: of no row both read 0 for what is stored.
 fn any_parent(table: &[u32], i: usize) -> usize
@@ -156,10 +156,10 @@ pub fn passes_test(table: &[u32], kind: usize, test: Test, y: usize) -> bool
 {
     match test {
         Test::AnyNode => true,
-        Test::Star => kind_number_at(table, y) == kind,
-        Test::Text => kind_at(table, y) == Kind::Text,
-        Test::Comment => kind_at(table, y) == Kind::Comment,
-        Test::Instruction => kind_at(table, y) == Kind::Instruction,
-        Test::Named(name) => kind_number_at(table, y) == kind && name_at(table, y) == name,
+        Test::Star => kind_at(table, y) == kind,
+        Test::Text => node_kind(table, y) == Kind::Text,
+        Test::Comment => node_kind(table, y) == Kind::Comment,
+        Test::Instruction => node_kind(table, y) == Kind::Instruction,
+        Test::Named(name) => kind_at(table, y) == kind && name_at(table, y) == name,
     }
 }

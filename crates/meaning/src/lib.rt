@@ -205,7 +205,7 @@ pub struct Context {
     pub size: f64,
 }
 
-// What a public function gives back: document 01's number, and its place.
+// What an outcome is told as: a number of the documents, and its place. The definitions speak of it, and C is given it.
 #[derive(Clone, Copy)]
 pub struct Answer {
     pub number: u32,
@@ -248,7 +248,8 @@ impl From<Result<u32, Refusal>> for Answer {
     }
 }
 
-// Why a public function refuses: each of document 01's numbers above 0, with its place where that is not 0.
+// Why a public function refuses: a case for each number above 0 of document 01, and for 13 and 14 of document 02, with its place where that
+// is not 0.
 #[derive(Clone, Copy, PartialEq, Eq)]
 pub enum Refusal {
     TableLength,

@@ -43,7 +43,7 @@ pub fn row_count(table: &[u32]) -> usize
 }
 
 // The number of row i's kind, any number: what a table that is not yet checked holds, and what `passes_test` compares.
-pub fn kind_number_at(table: &[u32], i: usize) -> usize
+pub fn kind_at(table: &[u32], i: usize) -> usize
     requires { i < rows table.now }
     ensures { (result ≡ kind table.now i) × (result < 4294967296) }
 {
@@ -51,11 +51,11 @@ pub fn kind_number_at(table: &[u32], i: usize) -> usize
 }
 
 // What row i is.
-pub fn kind_at(table: &[u32], i: usize) -> Kind
+pub fn node_kind(table: &[u32], i: usize) -> Kind
     requires { i < rows table.now }
     ensures { result ≡ kind_of (kind table.now i) }
 {
-    Kind::from(kind_number_at(table, i))
+    Kind::from(kind_at(table, i))
 }
 
 // Is row i an attribute?
@@ -64,7 +64,7 @@ pub fn is_attribute(table: &[u32], i: usize) -> bool
     requires { i < rows table.now }
     ensures { result ≡ is_attribute table.now i }
 {
-    kind_at(table, i) == Kind::Attribute
+    node_kind(table, i) == Kind::Attribute
 }
 
 pub fn name_at(table: &[u32], i: usize) -> usize

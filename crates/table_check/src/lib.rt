@@ -11,7 +11,7 @@ ghost use Rattle.table_check.specs.Names.{unlisted, stopped};
 ghost use Rattle.table_check.specs.Passes.{Passing};
 
 use meaning::{MOST_ROWS, Refusal};
-use table::{Kind, end_at, is_attribute, kind_at, name_at, parent_at, row_count, size_at};
+use table::{Kind, end_at, is_attribute, name_at, node_kind, parent_at, row_count, size_at};
 
 // The largest name.
 const MOST_NAME: usize = 65535;
@@ -37,7 +37,7 @@ fn first_element(table: &[u32]) -> Option<usize>
     ensures { Lowest (is_element table.now) (rows table.now) result }
 {
     for i in 0..row_count(table) {
-        if kind_at(table, i) == Kind::Element {
+        if node_kind(table, i) == Kind::Element {
             return Some(i);
         }
     }
@@ -51,7 +51,7 @@ fn good_root(table: &[u32]) -> Option<usize>
     ensures { RootIs table.now result }
 {
     let first = first_element(table)?;
-    let plain = kind_at(table, 0) == Kind::Root && name_at(table, 0) == 0;
+    let plain = node_kind(table, 0) == Kind::Root && name_at(table, 0) == 0;
     let placed = parent_at(table, 0) == 0 && size_at(table, 0) == row_count(table) - 1;
     if plain && placed { Some(first) } else { None }
 }
@@ -62,7 +62,7 @@ fn good_name(table: &[u32], i: usize) -> bool
     requires { i < rows table.now }
     ensures { result ≡ good_name (kind table.now i) (name table.now i) }
 {
-    let kind = kind_at(table, i);
+    let kind = node_kind(table, i);
     let name = name_at(table, i);
     if kind == Kind::Element || kind == Kind::Instruction || kind == Kind::Attribute {
         1 <= name && name <= MOST_NAME
@@ -77,7 +77,7 @@ fn good_numbers(table: &[u32], i: usize) -> bool
     requires { i < rows table.now }
     ensures { result ≡ good_numbers (kind table.now i) (name table.now i) (size table.now i) }
 {
-    let kind = kind_at(table, i);
+    let kind = node_kind(table, i);
     let known = kind != Kind::Root && kind != Kind::Unknown;
     known && good_name(table, i) && (kind == Kind::Element || size_at(table, i) == 0)
 }
@@ -88,7 +88,7 @@ fn text_of_root(table: &[u32], i: usize) -> bool
     requires { i < rows table.now }
     ensures { result ≡ text_of_root table.now i }
 {
-    kind_at(table, i) == Kind::Text && parent_at(table, i) == 0
+    node_kind(table, i) == Kind::Text && parent_at(table, i) == 0
 }
 
 // Does row i stand straight after its element, or after another attribute of it?
@@ -97,7 +97,7 @@ fn among_attributes(table: &[u32], i: usize) -> bool
     requires { (0 < i) × (i < rows table.now) }
     ensures { result ≡ among_attributes table.now i }
 {
-    let kind = kind_at(table, i - 1);
+    let kind = node_kind(table, i - 1);
     let parent = parent_at(table, i);
     let first = kind == Kind::Element && parent == i - 1;
     let next = kind == Kind::Attribute && parent == parent_at(table, i - 1);
@@ -151,7 +151,7 @@ impl<'a, const NAMES: usize> Pass<'a, NAMES> {
         requires { self.now.row < rows self.now.table.now }
         ensures { result ≡ later_element self.now.table.now self.now.row }
     {
-        let element = kind_at(self.table, self.row) == Kind::Element;
+        let element = node_kind(self.table, self.row) == Kind::Element;
         element && parent_at(self.table, self.row) == 0 && self.first < self.row
     }
 
@@ -162,8 +162,8 @@ impl<'a, const NAMES: usize> Pass<'a, NAMES> {
         ensures { result ≡ text_after_text self.now.table.now self.now.row }
     {
         let before = self.row - 1;
-        kind_at(self.table, self.row) == Kind::Text
-            && kind_at(self.table, before) == Kind::Text
+        node_kind(self.table, self.row) == Kind::Text
+            && node_kind(self.table, before) == Kind::Text
             && parent_at(self.table, before) == parent_at(self.table, self.row)
     }
 

@@ -12,9 +12,7 @@ ghost use Rattle.turn.specs.Parts.{First, Turnable};
 
 use counting::counting;
 use meaning::{Axis, Op, Refusal};
-use path::{
-    axis_at, first_link, index_or_axis, inverse_axis, op_at, row_count, second_link, test_at,
-};
+use path::{axis_at, first_link, op_at, row_count, second_link, test_at};
 use path_check::check_path;
 use pen::{Pen, code_of};
 

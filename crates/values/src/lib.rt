@@ -134,8 +134,7 @@ pub fn apply(
     requires { n ≤ most_rows }
     ensures { result ≡ applied literals.now op index u v n context }
 {
-    let x = number_of(u);
-    let y = number_of(v);
+    let (x, y) = (number_of(u), number_of(v));
     match op {
         Op::Literal => Value::Number(literal_at(literals, index)),
         Op::Position => Value::Number(context.position),
