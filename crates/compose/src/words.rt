@@ -33,10 +33,10 @@ pub fn word_number(text: &[u8], names: &Names, kind: usize, begin: usize, end: u
     match kind {
         AT => ATTRIBUTE,
         NAME_TEST => name_number(text, names, begin, end),
-        NODE_TYPE => type_number(text, begin, end) as u32,
+        NODE_TYPE => type_number(&text[begin..end]) as u32,
         INSTRUCTION => 4,
-        FUNCTION_NAME => function_number(text, begin, end) as u32,
-        AXIS_NAME => axis_number(text, begin, end) as u32,
+        FUNCTION_NAME => function_number(&text[begin..end]) as u32,
+        AXIS_NAME => axis_number(&text[begin..end]) as u32,
         _ => 0,
     }
 }

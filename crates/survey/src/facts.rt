@@ -57,7 +57,7 @@ pub fn own_fault(text: &[u8], names: &Names, kind: usize, begin: usize, end: usi
     match kind {
         NAME_TEST => name_fault(text, names, begin, end),
         AXIS_NAME => {
-            if 11 < axis_number(text, begin, end) {
+            if 11 < axis_number(&text[begin..end]) {
                 Some(UNHELD)
             } else {
                 None
@@ -82,7 +82,7 @@ pub fn name_of(text: &[u8], kind: usize, begin: usize, end: usize, name: usize) 
 {
     match kind {
         INSTRUCTION => begin,
-        FUNCTION_NAME => function_number(text, begin, end),
+        FUNCTION_NAME => function_number(&text[begin..end]),
         _ => name,
     }
 }

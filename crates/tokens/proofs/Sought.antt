@@ -1,6 +1,6 @@
 -- Words: where one stands among some, and the class that it has there.
 -- Assumes nothing.
-use Rattle.std.proofs.Common.{ℕ, ◌+◌, ◌≤◌, ◌<◌, arith, ◌≡◌, refl, ap, sym, ◌∙◌, Bool, true, false, ◌&&◌, List, [], ◌∷◌, length, get_or, eqb, eq-eqb, eqb-true, lt-ltb, le-ltb}
+use Rattle.std.proofs.Common.{ℕ, ◌+◌, ◌≤◌, ◌<◌, arith, ◌≡◌, refl, ap, sym, ◌∙◌, Bool, true, false, ◌&&◌, List, [], ◌∷◌, length, get_or, eqb, eqb-true, lt-ltb, le-ltb}
 use lib.ListN.{get_or-eq_default}
 use Rattle.names.specs.Names.{same, position}
 use Rattle.names.proofs.Words.{same_itself}

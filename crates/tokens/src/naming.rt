@@ -46,14 +46,14 @@ fn name_kind(text: &[u8], i: usize, first: usize, e: usize, due: bool) -> Class
     ensures { class_number result ≡ name_class text.now i e (run_end Spaces text.now e) due }
 {
     if due {
-        return operator_kind(text, i, e);
+        return operator_kind(&text[i..e]);
     }
     let next = run_end(Run::Spaces, text, e);
     if stands(text, next, b'(') {
-        return type_kind(text, i, e);
+        return type_kind(&text[i..e]);
     }
     if colon_and(text, next, b':') && e == first {
-        return axis_kind(text, i, e);
+        return axis_kind(&text[i..e]);
     }
     Class::NameTest
 }

@@ -1,19 +1,17 @@
 // Words: where one stands in a list, and the classes and numbers that words have.
-ghost use Rattle.std.specs.Prelude.{◌≡◌, ◌≤◌, length, map};
+ghost use Rattle.std.specs.Prelude.{◌≡◌, map};
 ghost use Rattle.names.specs.Names.{position};
-ghost use Rattle.text.specs.Tokens.{between, operator_name, node_type, axis_name};
+ghost use Rattle.text.specs.Tokens.{operator_name, node_type, axis_name};
 ghost use Rattle.text.specs.Limited.{axis_number, function_names};
 ghost use Rattle.text.specs.Reading.{type_number};
 ghost use Rattle.tokens.specs.Classes.{class_number};
 
 use crate::Class;
 
-// Where text[from..to] stands first among some words; their number where it doesn't.
-fn word_in(words: &[&str], text: &[u8], from: usize, to: usize) -> usize
-    requires { (from ≤ to) × (to ≤ length text.now) }
-    ensures { result ≡ position (map (λ w. w.now) words.now) (between text.now from to) }
+// Where a word stands first among some words; their number where it isn't one of them.
+fn word_in(words: &[&str], word: &[u8]) -> usize
+    ensures { result ≡ position (map (λ w. w.now) words.now) word.now }
 {
-    let word = &text[from..to];
     words
         .iter()
         .position(|w| w.as_bytes() == word)
@@ -25,11 +23,10 @@ const OPERATORS: [&str; 4] = ["and", "or", "mod", "div"];
 
 // The class of a name where an operator is due.
 #[tactic(auto, using(crate::proofs::Sought::past_last), unfolding(text::specs::Tokens::operator_name, text::specs::Tokens::operator_names, text::specs::Tokens::class_among, text::specs::Tokens::code))]
-pub fn operator_kind(text: &[u8], from: usize, to: usize) -> Class
-    requires { (from ≤ to) × (to ≤ length text.now) }
-    ensures { class_number result ≡ operator_name (between text.now from to) }
+pub fn operator_kind(word: &[u8]) -> Class
+    ensures { class_number result ≡ operator_name word.now }
 {
-    match word_in(&OPERATORS, text, from, to) {
+    match word_in(&OPERATORS, word) {
         0 => Class::And,
         1 => Class::Or,
         2 => Class::Mod,
@@ -43,11 +40,10 @@ const NODE_TYPES: [&str; 4] = ["comment", "text", "processing-instruction", "nod
 
 // The class of a name before `(`: a line for each node type.
 #[tactic(auto, using(crate::proofs::Sought::past_last), unfolding(text::specs::Tokens::node_type, text::specs::Tokens::node_types, text::specs::Tokens::class_among, text::specs::Tokens::code))]
-pub fn type_kind(text: &[u8], from: usize, to: usize) -> Class
-    requires { (from ≤ to) × (to ≤ length text.now) }
-    ensures { class_number result ≡ node_type (between text.now from to) }
+pub fn type_kind(word: &[u8]) -> Class
+    ensures { class_number result ≡ node_type word.now }
 {
-    match word_in(&NODE_TYPES, text, from, to) {
+    match word_in(&NODE_TYPES, word) {
         0 => Class::NodeType,
         1 => Class::NodeType,
         2 => Class::Instruction,
@@ -75,11 +71,10 @@ const AXES: [&str; 13] = [
 
 // The class of a name before `::`.
 #[tactic(auto, unfolding(text::specs::Tokens::axis_name, text::specs::Tokens::axis_names, text::specs::Tokens::code))]
-pub fn axis_kind(text: &[u8], from: usize, to: usize) -> Class
-    requires { (from ≤ to) × (to ≤ length text.now) }
-    ensures { class_number result ≡ axis_name (between text.now from to) }
+pub fn axis_kind(word: &[u8]) -> Class
+    ensures { class_number result ≡ axis_name word.now }
 {
-    if word_in(&AXES, text, from, to) < AXES.len() {
+    if word_in(&AXES, word) < AXES.len() {
         Class::AxisName
     } else {
         Class::Unknown
@@ -104,11 +99,10 @@ const NUMBERED_AXES: [&str; 12] = [
 
 // The number of an axis by its name, 12 for namespace and any other word.
 #[tactic(auto, unfolding(text::specs::Limited::axis_number))]
-pub fn axis_number(text: &[u8], from: usize, to: usize) -> usize
-    requires { (from ≤ to) × (to ≤ length text.now) }
-    ensures { result ≡ axis_number (between text.now from to) }
+pub fn axis_number(word: &[u8]) -> usize
+    ensures { result ≡ axis_number word.now }
 {
-    word_in(&NUMBERED_AXES, text, from, to)
+    word_in(&NUMBERED_AXES, word)
 }
 
 // The tests of a step in the order of their numbers.
@@ -116,20 +110,18 @@ const TESTS: [&str; 4] = ["node", "*", "text", "comment"];
 
 // The number of a test by its node type.
 #[tactic(auto, unfolding(text::specs::Reading::type_number))]
-pub fn type_number(text: &[u8], from: usize, to: usize) -> usize
-    requires { (from ≤ to) × (to ≤ length text.now) }
-    ensures { result ≡ type_number (between text.now from to) }
+pub fn type_number(word: &[u8]) -> usize
+    ensures { result ≡ type_number word.now }
 {
-    word_in(&TESTS, text, from, to)
+    word_in(&TESTS, word)
 }
 
 // The functions in the order of their numbers.
 const FUNCTIONS: [&str; 5] = ["position", "last", "count", "not", "boolean"];
 
 // The number of a function by its name, 5 for any that is not held.
-pub fn function_number(text: &[u8], from: usize, to: usize) -> usize
-    requires { (from ≤ to) × (to ≤ length text.now) }
-    ensures { result ≡ position function_names (between text.now from to) }
+pub fn function_number(word: &[u8]) -> usize
+    ensures { result ≡ position function_names word.now }
 {
-    word_in(&FUNCTIONS, text, from, to)
+    word_in(&FUNCTIONS, word)
 }

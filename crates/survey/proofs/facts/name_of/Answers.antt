@@ -9,8 +9,14 @@ pub returns-in-11 : goal.returns-in-11
 unfolding name_at
 returns-in-11 c = rw c.in-11.is
 
-pub function_number-requires : goal.function_number-requires
-function_number-requires c = reads_within c.requires
+pub slice_bounds-function_number-count : goal.slice_bounds-function_number-count
+slice_bounds-function_number-count c = (reads_within c.requires).0
+
+pub slice_bounds-function_number-start : goal.slice_bounds-function_number-start
+slice_bounds-function_number-start c = (reads_within c.requires).0
+
+pub slice_bounds-function_number-end : goal.slice_bounds-function_number-end
+slice_bounds-function_number-end c = (reads_within c.requires).1
 
 pub returns-in-12 : goal.returns-in-12
 unfolding name_at

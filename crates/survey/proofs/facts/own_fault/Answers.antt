@@ -12,8 +12,14 @@ name_fault-requires c = reads_as c.in-9.is c.requires
 pub returns-in-9 : goal.returns-in-9
 returns-in-9 c = c.name_fault.ensures ∙ rw c.in-9.is
 
-pub axis_number-requires : goal.axis_number-requires
-axis_number-requires c = reads_within c.requires
+pub slice_bounds-axis_number-count : goal.slice_bounds-axis_number-count
+slice_bounds-axis_number-count c = (reads_within c.requires).0
+
+pub slice_bounds-axis_number-start : goal.slice_bounds-axis_number-start
+slice_bounds-axis_number-start c = (reads_within c.requires).0
+
+pub slice_bounds-axis_number-end : goal.slice_bounds-axis_number-end
+slice_bounds-axis_number-end c = (reads_within c.requires).1
 
 pub returns-then-axis_number-gt11 : goal.returns-then-axis_number-gt11
 unfolding own_of source holds_axis
