@@ -1,5 +1,5 @@
--- Laws of the digits in a part of a text, byte by byte: how many there are, their whole number, those at the front; and of a literal's digits:
--- how large their number is, and how many stand behind the point.
+-- Laws of the digits in a word, byte by byte: how many there are, and their whole number; and of a literal's digits: how large their number is,
+-- and how many stand behind the point.
 -- Assumes nothing.
 use Rattle.text.specs.declared.Run.{Run}
 use Rattle.text.specs.declared.Run.TheVariants.{Digits}
@@ -10,8 +10,8 @@ use native.Mathlib.Omega.{arith}
 use mathlib.Core.Path.{◌≡◌, refl, sym, ap, ◌∙◌}
 use mathlib.Core.Bool.{Bool, true, false, cond}
 use mathlib.Core.List.{List, [], ◌∷◌, ◌++◌}
-use lib.ListN.{length, take, drop, length-append, length-take}
-use lib.Seq.{drop-drop, take-add}
+use lib.ListN.{length, take, drop, length-append, length-take, drop_of_length-le}
+use lib.Seq.{drop-cons, drop-drop, take-add}
 use lib.Dec.{eqb}
 use Rattle.meaning.specs.Lists.{keep}
 use Rattle.meaning.proofs.Lists.{keep_append}
@@ -19,58 +19,43 @@ use Rattle.decimal.specs.Decimal.{is_digit, number_from, number}
 use Rattle.decimal.proofs.Decimals.{digit_range}
 use Rattle.text.specs.Tokens.{passes, byte, many, between, run_end, number_end}
 use Rattle.text.specs.Limited.{number_at, digits, digits_behind, most_digits}
-use Rattle.literals.proofs.Parts.{part_first, part_none, part_length}
 
 -- ---- byte by byte
 
 -- where nothing is left
-module _ (text : List ℕ) (i to : ℕ) (h : to ≤ i) where
-  pub count_none : length (digits (between text i to)) ≡ 0
+module _ (w : List ℕ) (i : ℕ) (h : length w ≤ i) where
+  pub count_none : length (digits (drop i w)) ≡ 0
   unfolding digits keep
-  count_none = rw (part_none (drop i text) i to h)
+  count_none = rw (drop_of_length-le w h)
 
-  pub number_none : (n : ℕ) → number_from n (digits (between text i to)) ≡ n
+  pub number_none : (n : ℕ) → number_from n (digits (drop i w)) ≡ n
   unfolding digits keep number_from
-  number_none n = rw (part_none (drop i text) i to h)
-
-  pub front_none : many Digits (between text i to) ≡ 0
-  unfolding many
-  front_none = rw (part_none (drop i text) i to h)
+  number_none n = rw (drop_of_length-le w h)
 
 -- where a byte is left
-module _ (text : List ℕ) (i to : ℕ) (h : i < to) (k : to ≤ length text) where
+module _ (w : List ℕ) (i : ℕ) (h : i < length w) where
   -- a digit counts
-  pub count_digit : is_digit (byte text i) ≡ true → length (digits (between text i to)) ≡ length (digits (between text (i + 1) to)) + 1
+  pub count_digit : is_digit (byte w i) ≡ true → length (digits (drop i w)) ≡ length (digits (drop (i + 1) w)) + 1
   unfolding digits keep
-  count_digit e = rw (part_first text 0 i to h k) (rw e (sym (add-one _)))
+  count_digit e = rw (drop-cons w i 0 h, add-one i) (rw e (sym (add-one _)))
 
   -- any other byte doesn't
-  pub count_other : is_digit (byte text i) ≡ false → length (digits (between text i to)) ≡ length (digits (between text (i + 1) to))
+  pub count_other : is_digit (byte w i) ≡ false → length (digits (drop i w)) ≡ length (digits (drop (i + 1) w))
   unfolding digits keep
-  count_other e = rw (part_first text 0 i to h k) (rw e)
+  count_other e = rw (drop-cons w i 0 h, add-one i) (rw e)
 
   -- the number of the digits from i on, behind those of n
   pub number_first : (n : ℕ)
-      → number_from (cond (is_digit (byte text i)) (10 * n + (byte text i - 48)) n) (digits (between text (i + 1) to))
-      ≡ number_from n (digits (between text i to))
+      → number_from (cond (is_digit (byte w i)) (10 * n + (byte w i - 48)) n) (digits (drop (i + 1) w)) ≡ number_from n (digits (drop i w))
   unfolding digits keep number_from
-  number_first n = rw (part_first text 0 i to h k) (by (is_digit (byte text i)))
+  number_first n = rw (drop-cons w i 0 h, add-one i) (by (is_digit (byte w i)))
     where
       rest : List ℕ
-      rest = keep is_digit (between text (i + 1) to)
+      rest = keep is_digit (drop (suc i) w)
 
-      by : (t : Bool) → number_from (cond t (10 * n + (byte text i - 48)) n) rest ≡ number_from n (cond t (byte text i ∷ rest) rest)
+      by : (t : Bool) → number_from (cond t (10 * n + (byte w i - 48)) n) rest ≡ number_from n (cond t (byte w i ∷ rest) rest)
       by true = refl
       by false = refl
-
-  -- a digit is one more at the front, any other byte ends them
-  pub front_digit : is_digit (byte text i) ≡ true → many Digits (between text i to) ≡ many Digits (between text (i + 1) to) + 1
-  unfolding many
-  front_digit e = rw (part_first text 0 i to h k) (rw e (sym (add-one _)))
-
-  pub front_other : is_digit (byte text i) ≡ false → many Digits (between text i to) ≡ 0
-  unfolding many
-  front_other e = rw (part_first text 0 i to h k) (rw e)
 
 -- ---- how large a number of digits is
 
@@ -150,12 +135,6 @@ module _ (l : List ℕ) where
       let all : length (digits (take (a + 1 + many Digits rest) l)) ≡ length (digits (take (a + 1) l)) + many Digits rest =
       rw (take-add (a + 1) (many Digits rest) l) (digits_append (take (a + 1) l) (take (many Digits rest) rest) ∙ rw (front_digits rest)) in
       rw (many_take Digits (a + 1 + many Digits rest) l, length-take (a + 1 + many Digits rest) l, all) (omega arith)
-
--- how many they are, by where the digits at the front end
-pub behind_at : (text : List ℕ) (from to : ℕ) → to ≤ length text
-    → digits_behind (between text from to) ≡ to - from - (many Digits (between text from to) + 1)
-unfolding digits_behind
-behind_at text from to h = rw (part_length text from to h)
 
 -- a literal has digits alone, or a point among them
 pub behind_few : (text : List ℕ) (p : ℕ) → Few (number_at text p)

@@ -1,4 +1,3 @@
-pub mod Parts
 pub mod Digits
 pub mod Indices
 pub mod Cases

@@ -4,22 +4,21 @@
 ghost use Rattle.std.specs.Prelude.{◌≡◌, cond, ◌+◌, ◌-◌, ◌*◌, ◌^◌, ◌<◌, ◌≤◌, length, take};
 ghost use Rattle.decimal.specs.Decimal.{is_digit};
 ghost use Rattle.decimal.specs.Decimal as Decimal;
-ghost use Rattle.text.specs.declared.Run.TheVariants.{Digits};
-ghost use Rattle.text.specs.Tokens.{many, between, number_end};
+ghost use Rattle.text.specs.Tokens.{number_end};
 ghost use Rattle.text.specs.Limited.{number_at, digits, digits_behind, most_digits, value_at};
 ghost use Rattle.text.specs.Reading.{index_of};
 
 use text::Run;
 use tokens::{is_digit, run_end};
 
-// How many digits stand in text[from..to].
-pub fn digit_count(text: &[u8], from: usize, to: usize) -> usize
-    requires { (from ≤ to) × (to ≤ length text.now) }
-    ensures { result ≡ length (digits (between text.now from to)) }
+// How many digits a word has.
+#[tactic(auto, using(crate::proofs::Digits::count_digit, crate::proofs::Digits::count_other, crate::proofs::Digits::count_none))]
+pub fn digit_count(word: &[u8]) -> usize
+    ensures { result ≡ length (digits word.now) }
 {
     let mut count = 0;
-    for i in from..to {
-        if is_digit(text[i]) {
+    for b in word {
+        if is_digit(*b) {
             count += 1;
         }
     }
@@ -38,33 +37,26 @@ fn grown(n: u64, b: u8) -> u64
     }
 }
 
-// The whole number of the digits in text[from..to].
-fn whole(text: &[u8], from: usize, to: usize) -> u64
-    requires { (from ≤ to) × (to ≤ length text.now) × (length (digits (between text.now from to)) ≤ most_digits) }
-    ensures { (result ≡ Decimal.number (digits (between text.now from to))) × (result < 10 ^ most_digits) }
+// The whole number of the digits of a word.
+#[tactic(auto, using(crate::proofs::Digits::number_first, crate::proofs::Digits::number_none, crate::proofs::Digits::number_within, decimal::proofs::Decimals::number_grows))]
+fn whole(word: &[u8]) -> u64
+    requires { length (digits word.now) ≤ most_digits }
+    ensures { (result ≡ Decimal.number (digits word.now)) × (result < 10 ^ most_digits) }
 {
     let mut n: u64 = 0;
-    for i in from..to {
-        n = grown(n, text[i]);
+    for b in word {
+        n = grown(n, *b);
     }
     n
 }
 
-// Where the digits end that text[from..to] begins with.
-fn front_end(text: &[u8], from: usize, to: usize) -> usize
-    requires { (from ≤ to) × (to ≤ length text.now) }
-    ensures { (result ≡ from + many Digits (between text.now from to)) × (result ≤ to) }
+// How many bytes of a literal stand behind its point: digits all of them.
+#[tactic(auto, unfolding(text::specs::Tokens::run_end, text::specs::Limited::digits_behind))]
+fn behind_point(word: &[u8]) -> usize
+    ensures { result ≡ digits_behind word.now }
 {
-    run_end(Run::Digits, &text[..to], from)
-}
-
-// How many bytes stand behind the point of the literal text[from..to]: digits all of them.
-fn behind_point(text: &[u8], from: usize, to: usize) -> usize
-    requires { (from ≤ to) × (to ≤ length text.now) }
-    ensures { result ≡ digits_behind (between text.now from to) }
-{
-    let point = front_end(text, from, to);
-    if point < to { to - point - 1 } else { 0 }
+    let point = run_end(Run::Digits, word, 0);
+    word.len().saturating_sub(point + 1)
 }
 
 // At most 15 digits stand behind a point.
@@ -77,14 +69,15 @@ fn power_of_ten(n: usize) -> u64
 }
 
 // The value of the number literal text[from..to]: the whole number of its digits, divided once by the power of ten. Both are doubles exactly,
-// so that the division is the one rounding.
+// so that the division is the one rounding. The whole text is lent, as where a number ends is said of it.
 pub fn value(text: &[u8], from: usize, to: usize) -> f64
     requires { (from ≤ to) × (to ≤ length text.now) × (to ≡ number_end text.now from)
         × (length (digits (number_at text.now from)) ≤ most_digits) }
     ensures { result ≡ value_at text.now from }
 {
-    let digits = whole(text, from, to);
-    let scale = power_of_ten(behind_point(text, from, to));
+    let literal = &text[from..to];
+    let digits = whole(literal);
+    let scale = power_of_ten(behind_point(literal));
     (digits as f64) / (scale as f64)
 }
 

@@ -64,7 +64,7 @@ pub fn own_fault(text: &[u8], names: &Names, kind: usize, begin: usize, end: usi
             }
         }
         NUMBER => {
-            if 15 < digit_count(text, begin, end) {
+            if 15 < digit_count(&text[begin..end]) {
                 Some(LONG)
             } else {
                 None

@@ -1,12 +1,7 @@
--- `literals::digit_count` meets its contract. The loop's invariant: what is counted, with the digits that are left, is all of them.
--- Assumes nothing.
-use Prim.Native.Nat.{◌+◌, ◌≤◌}
-use mathlib.Core.Path.{◌≡◌}
-use lib.ListN.{length}
-use Rattle.text.specs.Tokens.{between}
+-- The loop's invariant of `literals::digit_count`: what is counted, with the digits that are left, is all of them. Assumes nothing.
+use Rattle.std.proofs.Common.{◌+◌, ◌≤◌, ◌≡◌, length, drop}
 use Rattle.text.specs.Limited.{digits}
 use Rattle.literals.proofs.digit_count.Given as goal
 
-abbrev pub invariant-loop-i : goal.invariant-loop-i
-invariant-loop-i l =
-    (l.count ≤ l.i) × (l.count + length (digits (between l.text l.i l.to)) ≡ length (digits (between l.text l.from l.to)))
+abbrev pub invariant-loop-b : goal.invariant-loop-b
+invariant-loop-b l = (l.count ≤ l.b-index) × (l.count + length (digits (drop l.b-index l.word)) ≡ length (digits l.word))

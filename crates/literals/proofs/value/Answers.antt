@@ -12,8 +12,7 @@ use Rattle.literals.proofs.value.Goals as goal
 
 pub whole-digits-requires : goal.whole-digits-requires
 unfolding number_at
-whole-digits-requires c =
-    (c.requires.0, c.requires.1, rw c.requires.2 c.requires.3)
+whole-digits-requires c = rw c.requires.2 c.requires.3
 
 pub power_of_ten-scale-requires : goal.power_of_ten-scale-requires
 unfolding number_at

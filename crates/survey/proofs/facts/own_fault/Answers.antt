@@ -33,8 +33,14 @@ returns-else-axis_number-gt11 c =
     let word = axis_word c.requires c.in-13.is in
     rw (c.in-13.is, ← word, ← c.axis_number.ensures, le-leb _ _ c.if-axis_number-gt11.false)
 
-pub digit_count-requires : goal.digit_count-requires
-digit_count-requires c = reads_within c.requires
+pub slice_bounds-digit_count-count : goal.slice_bounds-digit_count-count
+slice_bounds-digit_count-count c = (reads_within c.requires).0
+
+pub slice_bounds-digit_count-start : goal.slice_bounds-digit_count-start
+slice_bounds-digit_count-start c = (reads_within c.requires).0
+
+pub slice_bounds-digit_count-end : goal.slice_bounds-digit_count-end
+slice_bounds-digit_count-end c = (reads_within c.requires).1
 
 pub returns-then-digit_count-gt15 : goal.returns-then-digit_count-gt15
 unfolding own_of source
