@@ -1,11 +1,16 @@
 -- Words: where one stands among some, and the class that it has there.
 -- Assumes nothing.
-use Rattle.std.proofs.Common.{ℕ, ◌+◌, ◌≤◌, ◌<◌, arith, ◌≡◌, refl, ap, sym, ◌∙◌, Bool, true, false, ◌&&◌, List, [], ◌∷◌, length, get_or, eqb, eqb-true, lt-ltb, le-ltb}
-use lib.ListN.{get_or-eq_default}
+use Rattle.std.proofs.Common.{ℕ, ◌+◌, ◌≤◌, ◌<◌, arith, ◌≡◌, refl, sym, ◌∙◌, Bool, true, false, ◌&&◌, List, [], ◌∷◌, map, drop, length, get_or, Bor, eqb, eqb-true, lt-ltb, le-ltb}
+use Rattle.std.proofs.Math.ListN.{get_or-map}
+use native.Mathlib.Numerals.{add-one}
+use lib.ListN.{drop_of_length-le}
+use lib.Seq.{drop-cons}
 use Rattle.names.specs.Names.{same, position}
 use Rattle.names.proofs.Words.{same_itself}
-use Rattle.text.specs.Grammar.{Token, NodeType, 'processing_instruction', FunctionName}
-use Rattle.text.specs.Tokens.{code, class_among, node_types, node_type, axis_names, axis_name}
+use Rattle.text.specs.Grammar.{Token}
+use Rattle.text.specs.Tokens.{code, axis_names, axis_name}
+use Rattle.tokens.specs.declared.Class.{Class}
+use Rattle.tokens.specs.Classes.{class_number}
 
 -- ---- words that are not the same
 
@@ -34,9 +39,30 @@ pub position_miss : (v w : List ℕ) (vs : List (List ℕ)) → (v ≡ w → ⊥
 unfolding position
 position_miss v w vs h = rw (same_other v w h) (omega arith)
 
--- behind the last word of a list
-pub past_last : (ts : List Token) (other : Token) (p : ℕ) → length ts ≤ p → get_or ts p other ≡ other
-past_last ts other p h = get_or-eq_default ts other h
+-- ---- the class beside a word in a table
+
+abbrev pub among : List (Bor (List ℕ) × Class) → Class → List ℕ → Class
+among es other w = get_or (map (λ e. e.1) es) (position (map (λ e. e.0.now) es) w) other
+
+module _ (es : List (Bor (List ℕ) × Class)) (other : Class) (w : List ℕ) (i : ℕ) where
+  pub among_past : length es ≤ i → among (drop i es) other w ≡ other
+  unfolding position
+  among_past h = rw (drop_of_length-le es h)
+
+  module _ (d : Bor (List ℕ) × Class) (h : i < length es) where
+    pub among_here : (get_or es i d).0.now ≡ w → among (drop i es) other w ≡ (get_or es i d).1
+    unfolding position
+    among_here e = rw (drop-cons es i d h, e, same_itself w)
+
+    pub among_behind : ((get_or es i d).0.now ≡ w → ⊥) → among (drop i es) other w ≡ among (drop (i + 1) es) other w
+    unfolding position
+    among_behind n = rw (drop-cons es i d h, same_other (get_or es i d).0.now w n, add-one i)
+
+-- classes by their names in the code are those by their tokens
+pub class_told :
+    (cs : List Class) (ts : List Token) (c : Class) (t : Token) (p : ℕ) → map class_number cs ≡ map code ts → class_number c ≡ code t
+    → class_number (get_or cs p c) ≡ code (get_or ts p t)
+class_told cs ts c t p e f = sym (get_or-map class_number cs p c) ∙ (rw (e, f) (get_or-map code ts p t))
 
 -- the class of an axis name
 pub axis_named : (w : List ℕ) → position axis_names w < 13 → 13 ≡ axis_name w
@@ -46,15 +72,3 @@ axis_named w h = rw (lt-ltb _ 13 h)
 pub axis_unknown : (w : List ℕ) → 13 ≤ position axis_names w → 33 ≡ axis_name w
 unfolding axis_name axis_names code
 axis_unknown w h = rw (le-ltb _ 13 h)
-
--- the class of a node type, and of any other word
-pub typed :
-    (p : ℕ) (w : List ℕ) → p ≡ position node_types w
-    → code (get_or (NodeType ∷ NodeType ∷ 'processing_instruction' ∷ NodeType ∷ []) p FunctionName) ≡ node_type w
-unfolding node_type class_among
-typed p w e = rw e
-
-pub untyped : (p : ℕ) (w : List ℕ) → 4 ≤ p → p ≡ position node_types w → 12 ≡ node_type w
-unfolding code
-untyped p w h e =
-    ap code (sym (past_last (NodeType ∷ NodeType ∷ 'processing_instruction' ∷ NodeType ∷ []) FunctionName p h)) ∙ typed p w e

@@ -1,5 +1,5 @@
 // Words: where one stands in a list, and the classes and numbers that words have.
-ghost use Rattle.std.specs.Prelude.{◌≡◌, map};
+ghost use Rattle.std.specs.Prelude.{◌≡◌, map, get_or};
 ghost use Rattle.names.specs.Names.{position};
 ghost use Rattle.text.specs.Tokens.{operator_name, node_type, axis_name};
 ghost use Rattle.text.specs.Limited.{axis_number, function_names};
@@ -18,38 +18,47 @@ fn word_in(words: &[&str], word: &[u8]) -> usize
         .unwrap_or(words.len())
 }
 
+// The class beside a word in a table; another class for any other word.
+#[tactic(auto, using(crate::proofs::Sought::among_past, crate::proofs::Sought::among_here, crate::proofs::Sought::among_behind))]
+fn class_among(table: &[(&str, Class)], other: Class, word: &[u8]) -> Class
+    ensures { result ≡ get_or (map (λ e. e.1) table.now) (position (map (λ e. e.0.now) table.now) word.now) other }
+{
+    for (name, class) in table {
+        if name.as_bytes() == word {
+            return *class;
+        }
+    }
+    other
+}
+
 // The operators' names.
-const OPERATORS: [&str; 4] = ["and", "or", "mod", "div"];
+const OPERATORS: [(&str, Class); 4] = [
+    ("and", Class::And),
+    ("or", Class::Or),
+    ("mod", Class::Mod),
+    ("div", Class::Div),
+];
 
 // The class of a name where an operator is due.
-#[tactic(auto, using(crate::proofs::Sought::past_last), unfolding(text::specs::Tokens::operator_name, text::specs::Tokens::operator_names, text::specs::Tokens::class_among, text::specs::Tokens::code))]
 pub fn operator_kind(word: &[u8]) -> Class
     ensures { class_number result ≡ operator_name word.now }
 {
-    match word_in(&OPERATORS, word) {
-        0 => Class::And,
-        1 => Class::Or,
-        2 => Class::Mod,
-        3 => Class::Div,
-        _ => Class::Unknown,
-    }
+    class_among(&OPERATORS, Class::Unknown, word)
 }
 
 // The node types.
-const NODE_TYPES: [&str; 4] = ["comment", "text", "processing-instruction", "node"];
+const NODE_TYPES: [(&str, Class); 4] = [
+    ("comment", Class::NodeType),
+    ("text", Class::NodeType),
+    ("processing-instruction", Class::Instruction),
+    ("node", Class::NodeType),
+];
 
-// The class of a name before `(`: a line for each node type.
-#[tactic(auto, using(crate::proofs::Sought::past_last), unfolding(text::specs::Tokens::node_type, text::specs::Tokens::node_types, text::specs::Tokens::class_among, text::specs::Tokens::code))]
+// The class of a name before `(`.
 pub fn type_kind(word: &[u8]) -> Class
     ensures { class_number result ≡ node_type word.now }
 {
-    match word_in(&NODE_TYPES, word) {
-        0 => Class::NodeType,
-        1 => Class::NodeType,
-        2 => Class::Instruction,
-        3 => Class::NodeType,
-        _ => Class::FunctionName,
-    }
+    class_among(&NODE_TYPES, Class::FunctionName, word)
 }
 
 // The axes in the Recommendation's order.
