@@ -70,6 +70,7 @@ fn power_of_ten(n: usize) -> u64
 
 // The value of the number literal text[from..to]: the whole number of its digits, divided once by the power of ten. Both are doubles exactly,
 // so that the division is the one rounding. The whole text is lent, as where a number ends is said of it.
+#[tactic(auto, using(crate::proofs::Digits::behind_few), unfolding(text::specs::Limited::number_at))]
 pub fn value(text: &[u8], from: usize, to: usize) -> f64
     requires { (from ≤ to) × (to ≤ length text.now) × (to ≡ number_end text.now from)
         × (length (digits (number_at text.now from)) ≤ most_digits) }

@@ -2,24 +2,11 @@
 -- quotient is the definition's.
 -- Assumes nothing.
 use native.Mathlib.Omega.{arith}
-use mathlib.Core.Path.{◌≡◌, ◌∙◌}
 use lib.Dec.{le→leb}
 use lib.Ieee as Ieee
 use Rattle.meaning.specs.Meaning.{float}
-use Rattle.text.specs.Limited.{number_at, digits_behind, value_at}
-use Rattle.literals.proofs.Digits.{behind_few}
+use Rattle.text.specs.Limited.{number_at, value_at}
 use Rattle.literals.proofs.value.Goals as goal
-
-pub whole-digits-requires : goal.whole-digits-requires
-unfolding number_at
-whole-digits-requires c = rw c.requires.2 c.requires.3
-
-pub power_of_ten-scale-requires : goal.power_of_ten-scale-requires
-unfolding number_at
-power_of_ten-scale-requires c =
-    let text = c.args.text.now in
-    let e : c.behind_point.result ≡ digits_behind (number_at text c.args.from) = c.behind_point.ensures ∙ rw c.requires.2 in
-    omega (arith, behind_few text c.args.from)
 
 pub int_to_float-result : goal.int_to_float-result
 unfolding Ieee.in_float
