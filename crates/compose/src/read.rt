@@ -12,7 +12,7 @@ use crate::kinds::{
     BAR, CLOSING_SQUARE, COLONS, COMMA, FUNCTION_NAME, LITERAL, NUMBER, OPENING, SLASH, VARIABLE,
 };
 use crate::mode::next_mode;
-use crate::steps::{moved_to, number_token, slash_token, step_token};
+use crate::steps::{number_token, slash_token, step_token};
 
 // Does a token of this class change the desk alone?
 #[tactic(auto, unfolding(crate::specs::Deals::of_desk))]
@@ -44,9 +44,12 @@ pub fn read_token(
 {
     let mode = next_mode(kind, state.mode);
     if is_desk(kind) {
-        let bench = state.bench;
-        let done = desk_token(kind, number, state.mode, bench, rows, ops, opens);
-        return moved_to(state, mode, done);
+        let bench = desk_token(kind, number, state.mode, state.bench, rows, ops, opens);
+        return State {
+            mode,
+            bench,
+            ..state
+        };
     }
     if kind == NUMBER {
         return number_token(state, mode, value, rows, values);

@@ -37,17 +37,6 @@ fn path_from(state: State, ops: &mut [u32], opens: &mut [usize], op: u32) -> Sta
     state
 }
 
-// The same with another mode and another bench.
-pub fn moved_to(state: State, mode: usize, bench: Bench) -> State
-    ensures { result ≡ record { mode = mode; axis = state.axis; literals = state.literals; deepest = state.deepest; bench = bench } }
-{
-    State {
-        mode,
-        bench,
-        ..state
-    }
-}
-
 // A step without predicates.
 fn point_token(state: State, mode: usize, axis: u32, rows: &mut [u32]) -> State
     requires { (state.bench.hand.rows < 520) × (length rows.old ≡ row_room) }
@@ -61,7 +50,11 @@ fn point_token(state: State, mode: usize, axis: u32, rows: &mut [u32]) -> State
         hand: done,
         ..bench
     };
-    moved_to(state, mode, next)
+    State {
+        mode,
+        bench: next,
+        ..state
+    }
 }
 
 // The axis of the step to come.
@@ -97,12 +90,11 @@ fn step_ended(state: State, rows: &mut [u32], ops: &[u32], opens: &[usize]) -> S
     ensures { (values : List Float) → Read state rows.old ops.now opens.now values step_ended result
         rows.new ops.now opens.now values 0 }
 {
-    let mode = state.mode;
-    if is_beginning(mode) {
+    if is_beginning(state.mode) {
         return state;
     }
-    let done = settle_frames(state.bench, rows, ops, opens, 10);
-    moved_to(state, mode, done)
+    let bench = settle_frames(state.bench, rows, ops, opens, 10);
+    State { bench, ..state }
 }
 
 // A token of a step of this class, with its number.
@@ -151,8 +143,7 @@ pub fn slash_token(
     if kind == SLASHES {
         return point_token(ended, mode, DESCENDANT_OR_SELF, rows);
     }
-    let bench = ended.bench;
-    moved_to(ended, mode, bench)
+    State { mode, ..ended }
 }
 
 // A value is kept among the literals if it is new; equal values share one.

@@ -6,8 +6,8 @@ use borrow.Author.Rules.{rules}
 use Rattle.compose.proofs.Drafts.{read_as, dealt_read, as_number, step_kind, slash_kind}
 use Rattle.compose.proofs.read.read_token.Goals as goal
 
-pub desk_token-done-requires : goal.desk_token-done-requires
-desk_token-done-requires c = (
+pub desk_token-bench-requires : goal.desk_token-bench-requires
+desk_token-bench-requires c = (
   c.requires.1,
   c.requires.0,
   sym
@@ -26,8 +26,7 @@ desk_token-done-requires c = (
 pub returns-then-is_desk : goal.returns-then-is_desk
 returns-then-is_desk c =
     let g = c.args in
-    rw c.moved_to.ensures
-    (c.next_mode-mode.ensures.0, λ s i n v. dealt_read g.state g.rows.now g.ops.now g.opens.now g.values.now s i g.kind _ c.next_mode-mode.ensures.1 _ n c.desk_token-done.ensures)
+    (c.next_mode-mode.ensures.0, λ s i n v. dealt_read g.state g.rows.now g.ops.now g.opens.now g.values.now s i g.kind _ c.next_mode-mode.ensures.1 _ n c.desk_token-bench.ensures)
 
 pub returns-then-kind-eq-NUMBER : goal.returns-then-kind-eq-NUMBER
 returns-then-kind-eq-NUMBER c =

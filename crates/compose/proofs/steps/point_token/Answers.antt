@@ -6,8 +6,7 @@ use Rattle.compose.proofs.steps.point_token.Goals as goal
 
 pub returns : goal.returns
 returns c =
-    let g = c.args in
-    rw c.moved_to.ensures (
+    let g = c.args in (
       refl,
       λ ops opens values. pointed g.state g.rows.now ops opens values g.mode g.axis
           c.write_row-done.ensures,

@@ -32,8 +32,7 @@ returns-then-kind-eq-SLASHES c =
 
 pub returns : goal.returns
 returns c =
-    let g = c.args in
-    rw c.moved_to.ensures (
+    let g = c.args in (
       refl,
       λ values s i.
           read_as _ 4 (read_then

@@ -13,7 +13,6 @@ returns-then-is_beginning c =
 pub returns : goal.returns
 returns c =
     let g = c.args in
-    rw c.moved_to.ensures
-    (λ values. ended g.state g.rows.now g.ops.now g.opens.now values _
+    λ values. ended g.state g.rows.now g.ops.now g.opens.now values _
     (sym c.is_beginning.ensures
-    ∙ c.if-is_beginning.false) c.settle_frames-done.ensures)
+    ∙ c.if-is_beginning.false) c.settle_frames-bench.ensures
