@@ -213,19 +213,14 @@ module _ (s : State) (rows ops opens : List ℕ) (values : List Float) (src : So
   as_number value v e = rw (m, e, v)
 
   module _ (number : ℕ) (n : number ≡ word_number src i kind) where
-    pub as_at :
-        kind ≡ 6
-        → axis_read (mode_of mode) number (path_from 22 (draft_of s rows ops opens values)) ≡ compose_token src
-        (draft_of s rows ops opens values) i (class_of kind)
-    unfolding compose_token draft_of word_number code
-    as_at e = let k : word_number src i kind ≡ 11 = rw e in rw (m, e, n ∙ k)
-
     pub as_axis :
-        kind ≡ 13
+        (kind ≡ 6) ⊎ (kind ≡ 13)
         → axis_read (mode_of mode) number (path_from 22 (draft_of s rows ops opens values)) ≡ compose_token src
         (draft_of s rows ops opens values) i (class_of kind)
     unfolding compose_token draft_of word_number code
-    as_axis e = let k : word_number src i kind ≡ axis_number (word_of src i) = rw e in rw (m, e, n ∙ k)
+    as_axis o =
+        ⊎_elim (λ (e : kind ≡ 6). let k : word_number src i kind ≡ 11 = rw e in rw (m, e, n ∙ k))
+        (λ (e : kind ≡ 13). let k : word_number src i kind ≡ axis_number (word_of src i) = rw e in rw (m, e, n ∙ k)) o
 
     pub as_test :
         (kind ≡ 9) ⊎ ((kind ≡ 10) ⊎ (kind ≡ 11))

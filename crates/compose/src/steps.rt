@@ -43,16 +43,14 @@ fn point_token(state: State, mode: usize, axis: u32, rows: &mut [u32]) -> State
     ensures { (result.mode ≡ mode) × ((ops opens : List ℕ) (values : List Float) → Read state rows.old ops opens values
         (point_read (mode_of mode) axis) result rows.new ops opens values 1) }
 {
-    let bench = state.bench;
-    let hand = bench.hand;
+    let hand = state.bench.hand;
     let done = write_row(hand, rows, STEP, hand.link, 0, axis, 0, Sort::Unheld);
-    let next = Bench {
-        hand: done,
-        ..bench
-    };
     State {
         mode,
-        bench: next,
+        bench: Bench {
+            hand: done,
+            ..state.bench
+        },
         ..state
     }
 }
@@ -117,8 +115,7 @@ pub fn step_token(
     match kind {
         DOT => point_token(begun, mode, ITSELF, rows),
         DOTS => point_token(begun, mode, PARENT, rows),
-        AT => axis_token(begun, mode, number),
-        AXIS_NAME => axis_token(begun, mode, number),
+        AT | AXIS_NAME => axis_token(begun, mode, number),
         _ => test_token(begun, mode, number, ops, opens),
     }
 }
@@ -173,9 +170,8 @@ pub fn number_token(
     let n = state.literals;
     let index = index_of(values, n, value);
     let literals = keep_value(values, n, index, value);
-    let bench = state.bench;
     let done = write_row(
-        bench.hand,
+        state.bench.hand,
         rows,
         LITERAL_ROW,
         index as u32,
@@ -184,14 +180,13 @@ pub fn number_token(
         0,
         Sort::Numeral,
     );
-    let next = Bench {
-        hand: done,
-        ..bench
-    };
     State {
         mode,
         literals,
-        bench: next,
+        bench: Bench {
+            hand: done,
+            ..state.bench
+        },
         ..state
     }
 }

@@ -61,8 +61,6 @@ returns-in-12 c =
 pub returns-in_default : goal.returns-in_default
 returns-in_default c =
     let g = c.args in
-    let rest = c.in_default.in_default-own.rest in
     dealt g.kind g.number g.mode (worked_kept g.bench g.rows.now g.ops.now g.opens.now) (omega arith)
     (as_moved g.kind g.number g.mode
-    (moved_kind g.kind c.requires.2 c.if-kind-ge-PLUS.false rest.0.0.0.0.1
-    rest.0.0.0.1 rest.0.0.1 rest.0.1 rest.1))
+    (moved_kind g.kind c.requires.2 c.if-kind-ge-PLUS.false (λ e. omega arith) (λ e. omega arith) (λ e. omega arith) (λ e. omega arith) (λ e. omega arith)))

@@ -2,8 +2,10 @@
 -- Assumes nothing.
 use native.Mathlib.Omega.{arith}
 use mathlib.Core.List.{[]}
+use mathlib.Core.Path.{◌≡◌}
+use mathlib.Core.Logic.{◌⊎◌, inl, inr}
 use borrow.Author.Rules.{rules}
-use Rattle.compose.proofs.Drafts.{read_then, read_as, as_dot, as_dots, as_at, as_axis, as_test, test_kind}
+use Rattle.compose.proofs.Drafts.{read_then, read_as, as_dot, as_dots, as_axis, as_test, test_kind}
 use Rattle.compose.proofs.steps.step_token.Goals as goal
 
 pub point_token-requires : goal.point_token-requires
@@ -52,31 +54,20 @@ returns-in-6 c =
       λ values s i n.
           read_as _ 4 (read_then (c.path_from-begun.ensures.1 g.rows.now values)
           (c.axis_token.ensures.1 _ _ _ values))
-          (as_at g.state g.rows.now g.ops.now g.opens.now values s i g.kind g.mode
+          (as_axis g.state g.rows.now g.ops.now g.opens.now values s i g.kind g.mode
           c.requires.1 g.number n
           c.in-6.is) (omega arith),
     )
 
-pub returns-in-13 : goal.returns-in-13
-returns-in-13 c =
-    let g = c.args in (
-      c.axis_token-in-13.ensures.0,
-      λ values s i n.
-          read_as _ 4 (read_then (c.path_from-begun.ensures.1 g.rows.now values)
-          (c.axis_token-in-13.ensures.1 _ _ _ values))
-          (as_axis g.state g.rows.now g.ops.now g.opens.now values s i g.kind g.mode
-          c.requires.1 g.number n
-          c.in-13.is) (omega arith),
-    )
-
 pub returns-in_default : goal.returns-in_default
 returns-in_default c =
-    let g = c.args in (
+    let g = c.args in
+    let other : (g.kind ≡ 6) ⊎ (g.kind ≡ 13) → ⊥ = search rules in (
       c.test_token.ensures.0,
       λ values s i n.
           read_as _ 4 (read_then
           (c.path_from-begun.ensures.1
           g.rows.now values) (c.test_token.ensures.1 _ values))
           (as_test g.state g.rows.now g.ops.now g.opens.now values s i g.kind g.mode
-          c.requires.1 g.number n (test_kind g.kind c.requires.2 c.in_default.in_default-own.rest.0.0.0.1 c.in_default.in_default-own.rest.0.0.1 c.in_default.in_default-own.rest.0.1 c.in_default.in_default-own.rest.1)) (omega arith),
+          c.requires.1 g.number n (test_kind g.kind c.requires.2 (λ e. omega arith) (λ e. omega arith) (λ e. other (inl e)) (λ e. other (inr e)))) (omega arith),
     )
