@@ -1,13 +1,16 @@
 -- What the code does to the desk, one thing after the other: brackets, calls and operators.
 -- Assumes nothing.
-use Prim.Native.Nat.{ℕ, ◌+◌, ◌<◌, ◌≤◌}
+use Prim.Native.Nat.{ℕ, zero, suc, ◌+◌, ◌<◌, ◌≤◌}
 use native.Mathlib.Omega.{arith}
 use mathlib.Core.Path.{◌≡◌, refl, ◌∙◌, ap}
 use mathlib.Core.Bool.{true, false}
 use mathlib.Core.List.{List}
 use borrow.Author.Tests.{ne_eqb, le-leb, lt-leb}
 use Rattle.text.specs.declared.Sort.TheVariants.{Numeral}
+use Rattle.text.specs.declared.Function.{Function}
+use Rattle.text.specs.declared.Function.TheVariants.{PositionCall, LastCall, CountCall, NotCall, BooleanCall, OtherCall}
 use Rattle.text.specs.Machine.{has, beginning, signing, ending}
+use Rattle.text.specs.Survey.{function_at}
 use Rattle.text.specs.Composing.{Pen, Desk, desk, put, truthful, strength_of, settled, with_pen, push, open_group, open_truth, close_round, close_square}
 use Rattle.compose.specs.declared.Hand.{Hand}
 use Rattle.compose.specs.declared.Bench.{Bench}
@@ -70,30 +73,29 @@ does_square d = refl
 
 -- ---- calls
 
-module _ (f : ℕ) (d : Desk) where
-  pub called_position : f ≡ 0 → with_pen (put 2 0 0 0 0 Numeral) d ≡ called f d
-  unfolding called
-  called_position e = rw e
+-- what a function's name does to the desk
+abbrev pub call_of : Function → Desk → Desk
+call_of PositionCall d = with_pen (put 2 0 0 0 0 Numeral) d
+call_of LastCall d = with_pen (put 3 0 0 0 0 Numeral) d
+call_of CountCall d = push 21 0 0 d
+call_of NotCall d = push 18 0 0 d
+call_of BooleanCall d = open_truth d
+call_of OtherCall d = d
 
-  pub called_last : f ≡ 1 → with_pen (put 3 0 0 0 0 Numeral) d ≡ called f d
-  unfolding called
-  called_last e = rw e
+called_at : (n : ℕ) (d : Desk) → call_of (function_at n) d ≡ called n d
+unfolding called
+called_at zero d = refl
+called_at (suc zero) d = refl
+called_at (suc (suc zero)) d = refl
+called_at (suc (suc (suc zero))) d = refl
+called_at (suc (suc (suc (suc zero)))) d = refl
+called_at (suc (suc (suc (suc (suc n))))) d =
+    let m : ℕ = (suc (suc (suc (suc (suc n))))) in
+    rw (ne_eqb m 0 (λ e. omega arith), ne_eqb m 1 (λ e. omega arith), ne_eqb m 2 (λ e. omega arith), ne_eqb m 3 (λ e. omega arith), ne_eqb m 4 (λ e. omega arith))
 
-  pub called_count : f ≡ 2 → push 21 0 0 d ≡ called f d
-  unfolding called
-  called_count e = rw e
-
-  pub called_not : f ≡ 3 → push 18 0 0 d ≡ called f d
-  unfolding called
-  called_not e = rw e
-
-  pub called_boolean : f ≡ 4 → open_truth d ≡ called f d
-  unfolding called
-  called_boolean e = rw e
-
-  pub called_other : (f ≡ 0 → ⊥) → (f ≡ 1 → ⊥) → (f ≡ 2 → ⊥) → (f ≡ 3 → ⊥) → (f ≡ 4 → ⊥) → d ≡ called f d
-  unfolding called
-  called_other a b c g h = rw (ne_eqb f 0 a, ne_eqb f 1 b, ne_eqb f 2 c, ne_eqb f 3 g, ne_eqb f 4 h)
+-- the function with a number is called
+pub called_by : {f : Function} (n : ℕ) (d : Desk) → f ≡ function_at n → call_of f d ≡ called n d
+called_by n d e = ap (λ (f : Function). call_of f d) e ∙ called_at n d
 
 -- ---- operators
 

@@ -17,7 +17,7 @@ use crate::ops::{
     NEGATE, NEGATION, OR, POSITION, PREDICATE, REMAINDER, SUBTRACT, UNEQUAL,
 };
 use crate::pen::{made_truth, write_row};
-use text::Sort;
+use text::{Function, Sort};
 
 // `(` where an operand is due is a group's.
 fn open_token(mode: usize, height: usize, opens: &mut [usize])
@@ -71,28 +71,28 @@ fn call_token(
         opens.new 4 }
 {
     let hand = bench.hand;
-    match number {
-        0 => {
+    match Function::from(number as usize) {
+        Function::PositionCall => {
             let done = write_row(hand, rows, POSITION, 0, 0, 0, 0, Sort::Numeral);
             Bench {
                 hand: done,
                 ..bench
             }
         }
-        1 => {
+        Function::LastCall => {
             let done = write_row(hand, rows, LAST, 0, 0, 0, 0, Sort::Numeral);
             Bench {
                 hand: done,
                 ..bench
             }
         }
-        2 => push_frame(bench, ops, opens, COUNT, 0, 0),
-        3 => push_frame(bench, ops, opens, NEGATION, 0, 0),
-        4 => {
+        Function::CountCall => push_frame(bench, ops, opens, COUNT, 0, 0),
+        Function::NotCall => push_frame(bench, ops, opens, NEGATION, 0, 0),
+        Function::BooleanCall => {
             open_truth(bench.height, opens);
             bench
         }
-        _ => bench,
+        Function::OtherCall => bench,
     }
 }
 
