@@ -13,19 +13,18 @@ pub fn next_mode(kind: usize, mode: usize) -> usize
     ensures { (result < 14) × (mode_of result ≡ mode_after (mode_of mode) (class_of kind)) }
 {
     let act = act_at(kind, mode);
-    if act == 0 {
-        return mode;
+    match act {
+        // A refusal, which changes nothing.
+        0 => mode,
+        // One more than the mode that it leads to.
+        1..=14 => act - 1,
+        // A call's bracket opens: the mode argument.
+        16 => 1,
+        // A bracket closes: the mode part.
+        18..=19 => 13,
+        // Another bracket opens, or a comma: the mode operand.
+        _ => 0,
     }
-    if act <= 14 {
-        return act - 1;
-    }
-    if act <= 17 {
-        return if act == 16 { 1 } else { 0 };
-    }
-    if act <= 19 {
-        return 13;
-    }
-    0
 }
 
 // May an operand begin here?
@@ -33,6 +32,7 @@ pub fn is_beginning(mode: usize) -> bool
     requires { mode < 14 }
     ensures { result ≡ has beginning (mode_of mode) }
 {
+    // The modes operand, argument and union.
     mode < 3
 }
 
@@ -41,6 +41,7 @@ pub fn is_signing(mode: usize) -> bool
     requires { mode < 14 }
     ensures { result ≡ has signing (mode_of mode) }
 {
+    // The modes operand and argument.
     mode < 2
 }
 
@@ -49,5 +50,6 @@ pub fn is_ending(mode: usize) -> bool
     requires { mode < 14 }
     ensures { result ≡ has ending (mode_of mode) }
 {
+    // The modes root, whole and part.
     mode == 3 || 12 <= mode
 }

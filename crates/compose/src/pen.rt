@@ -5,7 +5,7 @@ ghost use Rattle.text.specs.Composing.{frame, put, truthful, predicable, row_of}
 ghost use Rattle.compose.specs.Standing.{row_room, Penned};
 
 use crate::Hand;
-use crate::ops::{EXISTS, GREATER_EQUAL, NEGATE, RELATIVE, STEP, TRUTH_OF};
+use crate::ops::{EQUAL, EXISTS, GREATER_EQUAL, NEGATE, RELATIVE, STEP, TRUTH_OF};
 use text::Sort;
 
 fn store_row(rows: &mut [u32], at: usize, op: u32, a: u32, b: u32, c: u32, d: u32)
@@ -72,26 +72,21 @@ pub fn made_predicate(hand: Hand, rows: &mut [u32]) -> Hand
     }
 }
 
-// A frame's row, with its last operand in hand; and and or want a truth.
+// A frame's row, with its last operand in hand, by the number of its op: steps, paths, the sign, the operators that give numbers, comparisons,
+// and and or, which want a truth.
 pub fn fill_row(hand: Hand, rows: &mut [u32], op: u32, a: u32, c: u32, d: u32) -> Hand
     requires { (hand.rows < 519) × (length rows.old ≡ row_room) }
     ensures { Penned hand rows.old (row_of (frame op a c d 0 0)) result rows.new 2 }
 {
-    if op == STEP {
-        return write_row(hand, rows, op, a, hand.link, c, d, Sort::Unheld);
+    match op {
+        STEP => write_row(hand, rows, op, a, hand.link, c, d, Sort::Unheld),
+        RELATIVE.. => write_row(hand, rows, op, hand.link, 0, 0, 0, Sort::Nodes),
+        NEGATE => write_row(hand, rows, op, hand.link, 0, 0, 0, Sort::Numeral),
+        ..NEGATE => write_row(hand, rows, op, a, hand.link, 0, 0, Sort::Numeral),
+        EQUAL..=GREATER_EQUAL => write_row(hand, rows, op, a, hand.link, 0, 0, Sort::Truth),
+        _ => {
+            let truth = made_truth(hand, rows);
+            write_row(truth, rows, op, a, truth.link, 0, 0, Sort::Truth)
+        }
     }
-    if RELATIVE <= op {
-        return write_row(hand, rows, op, hand.link, 0, 0, 0, Sort::Nodes);
-    }
-    if op == NEGATE {
-        return write_row(hand, rows, op, hand.link, 0, 0, 0, Sort::Numeral);
-    }
-    if op <= NEGATE {
-        return write_row(hand, rows, op, a, hand.link, 0, 0, Sort::Numeral);
-    }
-    if op <= GREATER_EQUAL {
-        return write_row(hand, rows, op, a, hand.link, 0, 0, Sort::Truth);
-    }
-    let truth = made_truth(hand, rows);
-    write_row(truth, rows, op, a, truth.link, 0, 0, Sort::Truth)
 }

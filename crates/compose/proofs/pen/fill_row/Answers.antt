@@ -4,43 +4,39 @@ use native.Mathlib.Omega.{arith}
 use Rattle.compose.proofs.Rows.{penned_as, penned_then, fill_step, fill_path, fill_sign, fill_number, fill_test, fill_truth}
 use Rattle.compose.proofs.pen.fill_row.Goals as goal
 
-pub returns-then-op-eq-STEP : goal.returns-then-op-eq-STEP
-returns-then-op-eq-STEP c =
+pub returns-in-24 : goal.returns-in-24
+returns-in-24 c =
     let g = c.args in
     penned_as _ 2 c.write_row.ensures
-    (fill_step g.hand g.rows.now g.op g.a g.c g.d c.if-op-eq-STEP.true) (omega arith)
+    (fill_step g.hand g.rows.now g.op g.a g.c g.d c.in-24.is) (omega arith)
 
-pub returns-then-op-ge-RELATIVE : goal.returns-then-op-ge-RELATIVE
-returns-then-op-ge-RELATIVE c =
+pub returns-in-22-to-4294967295 : goal.returns-in-22-to-4294967295
+returns-in-22-to-4294967295 c =
     let g = c.args in
-    penned_as _ 2 c.write_row-then-op-ge-RELATIVE.ensures
-    (fill_path g.hand g.rows.now g.op g.a g.c g.d c.if-op-eq-STEP.false
-    c.if-op-ge-RELATIVE.true) (omega arith)
+    penned_as _ 2 c.write_row-in-22-to-4294967295.ensures
+    (fill_path g.hand g.rows.now g.op g.a g.c g.d (λ e. omega arith) (omega arith)) (omega arith)
 
-pub returns-then-op-eq-NEGATE : goal.returns-then-op-eq-NEGATE
-returns-then-op-eq-NEGATE c =
+pub returns-in-9 : goal.returns-in-9
+returns-in-9 c =
     let g = c.args in
-    penned_as _ 2 c.write_row-then-op-eq-NEGATE.ensures
-    (fill_sign g.hand g.rows.now g.op g.a g.c g.d c.if-op-eq-NEGATE.true) (omega arith)
+    penned_as _ 2 c.write_row-in-9.ensures
+    (fill_sign g.hand g.rows.now g.op g.a g.c g.d c.in-9.is) (omega arith)
 
-pub returns-then-op-le-NEGATE : goal.returns-then-op-le-NEGATE
-returns-then-op-le-NEGATE c =
+pub returns-in-0-to-8 : goal.returns-in-0-to-8
+returns-in-0-to-8 c =
     let g = c.args in
-    penned_as _ 2 c.write_row-then-op-le-NEGATE.ensures
-    (fill_number g.hand g.rows.now g.op g.a g.c g.d c.if-op-eq-NEGATE.false
-    c.if-op-le-NEGATE.true) (omega arith)
+    penned_as _ 2 c.write_row-in-0-to-8.ensures
+    (fill_number g.hand g.rows.now g.op g.a g.c g.d (λ e. omega arith) (omega arith)) (omega arith)
 
-pub returns-then-op-le-GREATER_EQUAL : goal.returns-then-op-le-GREATER_EQUAL
-returns-then-op-le-GREATER_EQUAL c =
+pub returns-in-10-to-15 : goal.returns-in-10-to-15
+returns-in-10-to-15 c =
     let g = c.args in
-    penned_as _ 2 c.write_row-then-op-le-GREATER_EQUAL.ensures
-    (fill_test g.hand g.rows.now g.op g.a g.c g.d c.if-op-le-NEGATE.false
-    c.if-op-le-GREATER_EQUAL.true) (omega arith)
+    penned_as _ 2 c.write_row-in-10-to-15.ensures
+    (fill_test g.hand g.rows.now g.op g.a g.c g.d (omega arith) (omega arith)) (omega arith)
 
-pub returns : goal.returns
-returns c =
+pub returns-in_default : goal.returns-in_default
+returns-in_default c =
     let g = c.args in
     let truth = c.made_truth-truth.ensures in
-    penned_as _ 2 (penned_then truth c.write_row-2.ensures)
-    (fill_truth g.hand g.rows.now g.op g.a g.c g.d _ _ truth.pen_is
-    c.if-op-le-GREATER_EQUAL.false (omega arith)) (omega arith)
+    penned_as _ 2 (penned_then truth c.write_row-in_default.ensures)
+    (fill_truth g.hand g.rows.now g.op g.a g.c g.d _ _ truth.pen_is (omega arith) (omega arith)) (omega arith)
