@@ -6,7 +6,6 @@ ghost use Rattle.text.specs.Reading.{operation};
 ghost use Rattle.compose.specs.Standing.{row_room, open_room, Worked, Countable, Opened, Dealt};
 ghost use Rattle.compose.specs.Deals.{Roomy, opened, closed, squared, called, wanted, operated, signed, of_desk};
 
-use crate::Bench;
 use crate::desk::{
     close_round, close_square, open_group, open_truth, push_frame, settle_frames, strength,
 };
@@ -17,10 +16,11 @@ use crate::ops::{
     NEGATE, NEGATION, OR, POSITION, PREDICATE, REMAINDER, SUBTRACT, UNEQUAL,
 };
 use crate::pen::{made_truth, write_row};
+use crate::{Bench, OPENS, OPS};
 use text::{Function, Sort};
 
 // `(` where an operand is due is a group's.
-fn open_token(mode: usize, height: usize, opens: &mut [usize])
+fn open_token(mode: usize, height: usize, opens: &mut [usize; OPENS])
     requires { (mode < 14) × (height ≤ 260) × (length opens.old ≡ open_room) × Countable height opens.old }
     ensures { Opened (opened mode) height opens.old opens.new }
 {
@@ -34,8 +34,8 @@ fn close_token(
     mode: usize,
     bench: Bench,
     rows: &mut [u32],
-    ops: &[u32],
-    opens: &mut [usize],
+    ops: &[u32; OPS],
+    opens: &mut [usize; OPENS],
 ) -> Bench
     requires { (mode < 14) × Roomy 516 bench rows.old ops.now opens.old }
     ensures { Worked bench rows.old ops.now opens.old (closed mode) result rows.new ops.now
@@ -49,7 +49,7 @@ fn close_token(
 }
 
 // `]` closes a predicate.
-fn square_token(bench: Bench, rows: &mut [u32], ops: &[u32], opens: &[usize]) -> Bench
+fn square_token(bench: Bench, rows: &mut [u32], ops: &[u32; OPS], opens: &[usize; OPENS]) -> Bench
     requires { Roomy 516 bench rows.old ops.now opens.now }
     ensures { Worked bench rows.old ops.now opens.now squared result rows.new ops.now
         opens.now 4 }
@@ -63,8 +63,8 @@ fn call_token(
     number: u32,
     bench: Bench,
     rows: &mut [u32],
-    ops: &mut [u32],
-    opens: &mut [usize],
+    ops: &mut [u32; OPS],
+    opens: &mut [usize; OPENS],
 ) -> Bench
     requires { Roomy 516 bench rows.old ops.old opens.old × Countable bench.height opens.old }
     ensures { Worked bench rows.old ops.old opens.old (called number) result rows.new ops.new
@@ -116,8 +116,8 @@ fn operator_token(
     op: u32,
     bench: Bench,
     rows: &mut [u32],
-    ops: &mut [u32],
-    opens: &mut [usize],
+    ops: &mut [u32; OPS],
+    opens: &mut [usize; OPENS],
 ) -> Bench
     requires { Roomy 516 bench rows.old ops.old opens.old }
     ensures { Worked bench rows.old ops.old opens.old (operated op) result rows.new ops.new
@@ -134,8 +134,8 @@ fn minus_token(
     mode: usize,
     bench: Bench,
     rows: &mut [u32],
-    ops: &mut [u32],
-    opens: &mut [usize],
+    ops: &mut [u32; OPS],
+    opens: &mut [usize; OPENS],
 ) -> Bench
     requires { (mode < 14) × Roomy 516 bench rows.old ops.old opens.old }
     ensures { Worked bench rows.old ops.old opens.old (signed mode) result rows.new ops.new
@@ -178,8 +178,8 @@ pub fn desk_token(
     mode: usize,
     bench: Bench,
     rows: &mut [u32],
-    ops: &mut [u32],
-    opens: &mut [usize],
+    ops: &mut [u32; OPS],
+    opens: &mut [usize; OPENS],
 ) -> Bench
     requires { (mode < 14) × (kind < 33) × (of_desk kind ≡ true) × Roomy 516 bench rows.old ops.old opens.old
         × Countable bench.height opens.old }

@@ -7,7 +7,7 @@ ghost use Rattle.compose.specs.Standing.{frames_of, row_room, op_room, open_room
 
 use crate::ops::{ABSOLUTE, NEGATION, RELATIVE};
 use crate::pen::{fill_row, made_predicate, made_truth, write_row};
-use crate::{Bench, Hand};
+use crate::{Bench, Hand, OPENS, OPS};
 use text::Sort;
 
 fn store_frame(ops: &mut [u32], at: usize, op: u32, a: u32, c: u32, d: u32)
@@ -31,8 +31,8 @@ fn store_open(opens: &mut [usize], at: usize, o: usize, t: usize)
 // A frame that has the link in hand; then nothing is in hand.
 pub fn push_frame(
     bench: Bench,
-    ops: &mut [u32],
-    opens: &mut [usize],
+    ops: &mut [u32; OPS],
+    opens: &mut [usize; OPENS],
     op: u32,
     c: u32,
     d: u32,
@@ -69,7 +69,7 @@ pub fn strength(op: u32) -> usize
 }
 
 // Does the top frame bind at least as strongly as k, with no bracket open behind it?
-fn may_fill(k: usize, ops: &[u32], opens: &[usize], height: usize) -> bool
+fn may_fill(k: usize, ops: &[u32; OPS], opens: &[usize; OPENS], height: usize) -> bool
     requires { (height ≤ 260) × (length ops.now ≡ op_room) × (length opens.now ≡ open_room) }
     ensures { result ≡ top_fills k (frames_of ops.now opens.now height) }
 {
@@ -81,7 +81,7 @@ fn may_fill(k: usize, ops: &[u32], opens: &[usize], height: usize) -> bool
 }
 
 // The top frame is filled.
-fn fill_top(bench: Bench, rows: &mut [u32], ops: &[u32]) -> Bench
+fn fill_top(bench: Bench, rows: &mut [u32], ops: &[u32; OPS]) -> Bench
     requires { (0 < bench.height) × (load bench ≤ 518) × (length rows.old ≡ row_room) × (length ops.now ≡ op_room) }
     ensures { (result.height + 1 ≡ bench.height) × ((opens : List ℕ) → Worked bench rows.old ops.now opens filled result
         rows.new ops.now opens 0) }
@@ -100,8 +100,8 @@ fn fill_top(bench: Bench, rows: &mut [u32], ops: &[u32]) -> Bench
 pub fn settle_frames(
     bench: Bench,
     rows: &mut [u32],
-    ops: &[u32],
-    opens: &[usize],
+    ops: &[u32; OPS],
+    opens: &[usize; OPENS],
     k: usize,
 ) -> Bench
     requires { (load bench ≤ 518) × (length rows.old ≡ row_room) × (length ops.now ≡ op_room) × (length opens.now ≡ open_room) }
@@ -117,7 +117,7 @@ pub fn settle_frames(
 }
 
 // A round bracket opens behind the top frame.
-pub fn open_group(height: usize, opens: &mut [usize])
+pub fn open_group(height: usize, opens: &mut [usize; OPENS])
     requires { (height ≤ 260) × (length opens.old ≡ open_room) × Countable height opens.old }
     ensures { Opened open_group height opens.old opens.new }
 {
@@ -130,7 +130,7 @@ pub fn open_group(height: usize, opens: &mut [usize])
 }
 
 // So does boolean(), and is then the last of those.
-pub fn open_truth(height: usize, opens: &mut [usize])
+pub fn open_truth(height: usize, opens: &mut [usize; OPENS])
     requires { (height ≤ 260) × (length opens.old ≡ open_room) × Countable height opens.old }
     ensures { Opened open_truth height opens.old opens.new }
 {
@@ -143,7 +143,7 @@ pub fn open_truth(height: usize, opens: &mut [usize])
 }
 
 // The bracket of not() or count() closes: the frame is the row.
-fn close_call(bench: Bench, rows: &mut [u32], ops: &[u32]) -> Bench
+fn close_call(bench: Bench, rows: &mut [u32], ops: &[u32; OPS]) -> Bench
     requires { (0 < bench.height) × (load bench ≤ 518) × (length rows.old ≡ row_room) × (length ops.now ≡ op_room) }
     ensures { (opens : List ℕ) → Worked bench rows.old ops.now opens close_call result rows.new
         ops.now opens 0 }
@@ -167,7 +167,12 @@ fn close_call(bench: Bench, rows: &mut [u32], ops: &[u32]) -> Bench
 }
 
 // `)` behind a settled desk. Behind the last boolean() the value is a truth already.
-pub fn close_round(bench: Bench, rows: &mut [u32], ops: &[u32], opens: &mut [usize]) -> Bench
+pub fn close_round(
+    bench: Bench,
+    rows: &mut [u32],
+    ops: &[u32; OPS],
+    opens: &mut [usize; OPENS],
+) -> Bench
     requires { (load bench ≤ 518) × (length rows.old ≡ row_room) × (length ops.now ≡ op_room) × (length opens.old ≡ open_room) }
     ensures { Worked bench rows.old ops.now opens.old close_round result rows.new ops.now
         opens.new 2 }
@@ -194,7 +199,7 @@ pub fn close_round(bench: Bench, rows: &mut [u32], ops: &[u32], opens: &mut [usi
 }
 
 // `]` behind a settled desk.
-pub fn close_square(bench: Bench, rows: &mut [u32], ops: &[u32]) -> Bench
+pub fn close_square(bench: Bench, rows: &mut [u32], ops: &[u32; OPS]) -> Bench
     requires { (load bench ≤ 518) × (length rows.old ≡ row_room) × (length ops.now ≡ op_room) }
     ensures { (opens : List ℕ) → Worked bench rows.old ops.now opens close_square result rows.new
         ops.now opens 0 }
@@ -224,7 +229,7 @@ pub fn close_square(bench: Bench, rows: &mut [u32], ops: &[u32]) -> Bench
 }
 
 // How many paths are to come.
-pub fn paths_in(ops: &[u32], height: usize) -> usize
+pub fn paths_in(ops: &[u32; OPS], height: usize) -> usize
     requires { (height ≤ 260) × (length ops.now ≡ op_room) }
     ensures { ((opens : List ℕ) → result ≡ paths_in (frames_of ops.now opens height)) × (result ≤ height) }
 {

@@ -11,7 +11,7 @@ ghost use Rattle.compose.specs.Passes.{Passes, nothing_read};
 use crate::ops::CHILD;
 use crate::read::read_token;
 use crate::words::{number_value, word_number};
-use crate::{Bench, Hand, Passed, State};
+use crate::{Bench, Hand, OPENS, OPS, Passed, State};
 use names::Names;
 use text::Sort;
 use tokens::{Next, is_due, next_token};
@@ -52,8 +52,8 @@ fn read_next(
     next: Next,
     state: State,
     rows: &mut [u32],
-    ops: &mut [u32],
-    opens: &mut [usize],
+    ops: &mut [u32; OPS],
+    opens: &mut [usize; OPENS],
     values: &mut [f64],
 ) -> State
     requires { Spelled text.now names.now.list.now next.kind next.begin next.end
@@ -75,8 +75,8 @@ pub fn pass_over(
     text: &[u8],
     names: &Names,
     rows: &mut [u32],
-    ops: &mut [u32],
-    opens: &mut [usize],
+    ops: &mut [u32; OPS],
+    opens: &mut [usize; OPENS],
     values: &mut [f64],
 ) -> Passed
     requires { Plain text.now names.now.list.now × (length rows.old ≡ row_room)

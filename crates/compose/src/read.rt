@@ -6,13 +6,13 @@ ghost use Rattle.text.specs.Composing.{compose_token};
 ghost use Rattle.compose.specs.Standing.{value_room, Countable, Read, word_number};
 ghost use Rattle.compose.specs.Deals.{Roomy, of_desk};
 
-use crate::State;
 use crate::deal::desk_token;
 use crate::kinds::{
     BAR, CLOSING_SQUARE, COLONS, COMMA, FUNCTION_NAME, LITERAL, NUMBER, OPENING, SLASH, VARIABLE,
 };
 use crate::mode::next_mode;
 use crate::steps::{number_token, slash_token, step_token};
+use crate::{OPENS, OPS, State};
 
 // Does a token of this class change the desk alone?
 #[tactic(auto, unfolding(crate::specs::Deals::of_desk))]
@@ -32,8 +32,8 @@ pub fn read_token(
     value: f64,
     state: State,
     rows: &mut [u32],
-    ops: &mut [u32],
-    opens: &mut [usize],
+    ops: &mut [u32; OPS],
+    opens: &mut [usize; OPENS],
     values: &mut [f64],
 ) -> State
     requires { (kind < 33) × (state.mode < 14) × Roomy 514 state.bench rows.old ops.old opens.old × (state.literals < value_room)

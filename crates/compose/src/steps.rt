@@ -15,12 +15,12 @@ use crate::ops::{
     ABSOLUTE, CHILD, DESCENDANT_OR_SELF, ITSELF, LITERAL_ROW, PARENT, RELATIVE, STEP,
 };
 use crate::pen::write_row;
-use crate::{Bench, State};
+use crate::{Bench, OPENS, OPS, State};
 use literals::index_of;
 use text::Sort;
 
 // A path begins with this op where an operand is due; behind a step it goes on.
-fn path_from(state: State, ops: &mut [u32], opens: &mut [usize], op: u32) -> State
+fn path_from(state: State, ops: &mut [u32; OPS], opens: &mut [usize; OPENS], op: u32) -> State
     requires { (state.mode < 14) × (state.bench.height < 260) × (length ops.old ≡ op_room) × (length opens.old ≡ open_room) }
     ensures { (result.mode ≡ state.mode) × ((rows : List ℕ) (values : List Float) → Read state rows ops.old opens.old values
         (path_from op) result rows ops.new opens.new values 2) }
@@ -68,7 +68,13 @@ fn axis_token(state: State, mode: usize, axis: u32) -> State
 }
 
 // A node test: its step is a row to come.
-fn test_token(state: State, mode: usize, test: u32, ops: &mut [u32], opens: &mut [usize]) -> State
+fn test_token(
+    state: State,
+    mode: usize,
+    test: u32,
+    ops: &mut [u32; OPS],
+    opens: &mut [usize; OPENS],
+) -> State
     requires { (state.bench.height < 260) × (length ops.old ≡ op_room) × (length opens.old ≡ open_room) }
     ensures { (result.mode ≡ mode) × ((rows : List ℕ) (values : List Float) → Read state rows ops.old opens.old values
         (test_read (mode_of mode) test) result rows ops.new opens.new values 2) }
@@ -83,7 +89,7 @@ fn test_token(state: State, mode: usize, test: u32, ops: &mut [u32], opens: &mut
 }
 
 // `/` and `//` behind a step.
-fn step_ended(state: State, rows: &mut [u32], ops: &[u32], opens: &[usize]) -> State
+fn step_ended(state: State, rows: &mut [u32], ops: &[u32; OPS], opens: &[usize; OPENS]) -> State
     requires { (state.mode < 14) × Roomy 518 state.bench rows.old ops.now opens.now }
     ensures { (values : List Float) → Read state rows.old ops.now opens.now values step_ended result
         rows.new ops.now opens.now values 0 }
@@ -102,8 +108,8 @@ pub fn step_token(
     mode: usize,
     state: State,
     rows: &mut [u32],
-    ops: &mut [u32],
-    opens: &mut [usize],
+    ops: &mut [u32; OPS],
+    opens: &mut [usize; OPENS],
 ) -> State
     requires { (state.mode < 14) × (mode_of mode ≡ mode_after (mode_of state.mode) (class_of kind)) × (of_step kind ≡ true)
         × Roomy 514 state.bench rows.old ops.old opens.old }
@@ -126,8 +132,8 @@ pub fn slash_token(
     mode: usize,
     state: State,
     rows: &mut [u32],
-    ops: &mut [u32],
-    opens: &mut [usize],
+    ops: &mut [u32; OPS],
+    opens: &mut [usize; OPENS],
 ) -> State
     requires { (state.mode < 14) × (mode_of mode ≡ mode_after (mode_of state.mode) (class_of kind)) × (17 ≤ kind) × (kind ≤ 18)
         × Roomy 514 state.bench rows.old ops.old opens.old }

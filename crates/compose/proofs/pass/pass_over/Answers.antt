@@ -1,12 +1,10 @@
 -- The answers of `compose::pass::pass_over`: what its code leaves to show, by the invariants beside this file. Assumes nothing.
 use Rattle.text.specs.declared.Run.TheVariants.{Spaces}
-use Prim.Native.Nat.{ℕ}
 use native.Mathlib.Omega.{arith}
-use mathlib.Core.Path.{sym, ◌∙◌, ap}
+use mathlib.Core.Path.{sym, ◌∙◌}
 use mathlib.Core.Bool.{true≢false}
-use lib.ListN.{length, length-replicate}
+use lib.ListN.{length}
 use borrow.Author.Tests.{ltb-true, ltb-false}
-use Rattle.compose.specs.Standing.{op_room, open_room}
 use Rattle.text.proofs.Lexemes.{run_behind}
 use Rattle.compose.proofs.Passing.{found_takes, passing_start, next_spelled, next_place, next_roomy, next_countable, passing_full, passing_next, passing_done}
 use Rattle.compose.proofs.pass.pass_over.Goals as goal
@@ -34,14 +32,6 @@ is_full-requires c =
 pub shape_of-rows-then-is_full : goal.shape_of-rows-then-is_full
 shape_of-rows-then-is_full c = omega
     (arith, c.loop-next.invariant.rows_room, c.requires.1)
-
-pub shape_of-ops-then-is_full : goal.shape_of-ops-then-is_full
-shape_of-ops-then-is_full c = omega
-    (arith, c.loop-next.invariant.ops_room, ap length c.requires.2, length-replicate {A = ℕ} op_room 0)
-
-pub shape_of-opens-then-is_full : goal.shape_of-opens-then-is_full
-shape_of-opens-then-is_full c = omega
-    (arith, c.loop-next.invariant.opens_room, ap length c.requires.3, length-replicate {A = ℕ} open_room 0)
 
 pub shape_of-values-then-is_full : goal.shape_of-values-then-is_full
 shape_of-values-then-is_full c = omega
@@ -91,24 +81,6 @@ shape_of-rows c = omega (
   arith,
   c.loop-next.invariant.rows_room,
   c.requires.1,
-)
-
-pub shape_of-ops : goal.shape_of-ops
-shape_of-ops c = omega (
-  arith,
-  c.loop-next.invariant.ops_room,
-  ap length
-      c.requires.2,
-  length-replicate {A = ℕ} op_room 0,
-)
-
-pub shape_of-opens : goal.shape_of-opens
-shape_of-opens c = omega (
-  arith,
-  c.loop-next.invariant.opens_room,
-  ap length
-      c.requires.3,
-  length-replicate {A = ℕ} open_room 0,
 )
 
 pub shape_of-values : goal.shape_of-values
