@@ -3,7 +3,7 @@ ghost use Rattle.std.specs.Prelude.{◌≡◌, true, List, ℕ, ◌-◌, ◌<◌
 ghost use Rattle.meaning.specs.Rows.{code};
 ghost use Rattle.text.specs.Tokens.{class_of};
 ghost use Rattle.text.specs.Reading.{operation};
-ghost use Rattle.compose.specs.Standing.{row_room, open_room, Worked, Countable, Opened, Dealt};
+ghost use Rattle.compose.specs.Standing.{row_room, Worked, Countable, Opened, Dealt};
 ghost use Rattle.compose.specs.Deals.{Roomy, opened, closed, squared, called, wanted, operated, signed, of_desk};
 
 use crate::desk::{
@@ -21,7 +21,7 @@ use text::{Function, Sort};
 
 // `(` where an operand is due is a group's.
 fn open_token(mode: usize, height: usize, opens: &mut [usize; OPENS])
-    requires { (mode < 14) × (height ≤ 260) × (length opens.old ≡ open_room) × Countable height opens.old }
+    requires { (mode < 14) × (height ≤ 260) × Countable height opens.old }
     ensures { Opened (opened mode) height opens.old opens.new }
 {
     if is_beginning(mode) {

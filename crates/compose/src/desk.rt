@@ -3,7 +3,7 @@
 ghost use Rattle.std.specs.Prelude.{◌≡◌, List, [], ◌∷◌, ℕ, ◌+◌, ◌-◌, ◌*◌, ◌<◌, ◌≤◌, length};
 ghost use Rattle.std.proofs.lemmas.List.Edits.{sets};
 ghost use Rattle.text.specs.Composing.{strength_of, settled, push, open_group, open_truth, close_round, close_square, paths_in};
-ghost use Rattle.compose.specs.Standing.{frames_of, row_room, op_room, open_room, load, Worked, top_fills, filled, close_call, Countable, Opened};
+ghost use Rattle.compose.specs.Standing.{frames_of, row_room, load, Worked, top_fills, filled, close_call, Countable, Opened};
 
 use crate::ops::{ABSOLUTE, NEGATION, RELATIVE};
 use crate::pen::{fill_row, made_predicate, made_truth, write_row};
@@ -37,7 +37,7 @@ pub fn push_frame(
     c: u32,
     d: u32,
 ) -> Bench
-    requires { (bench.height < 260) × (length ops.old ≡ op_room) × (length opens.old ≡ open_room) }
+    requires { bench.height < 260 }
     ensures { (rows : List ℕ) → Worked bench rows ops.old opens.old (push op c d) result rows ops.new
         opens.new 2 }
 {
@@ -70,7 +70,7 @@ pub fn strength(op: u32) -> usize
 
 // Does the top frame bind at least as strongly as k, with no bracket open behind it?
 fn may_fill(k: usize, ops: &[u32; OPS], opens: &[usize; OPENS], height: usize) -> bool
-    requires { (height ≤ 260) × (length ops.now ≡ op_room) × (length opens.now ≡ open_room) }
+    requires { height ≤ 260 }
     ensures { result ≡ top_fills k (frames_of ops.now opens.now height) }
 {
     if height == 0 {
@@ -82,7 +82,7 @@ fn may_fill(k: usize, ops: &[u32; OPS], opens: &[usize; OPENS], height: usize) -
 
 // The top frame is filled.
 fn fill_top(bench: Bench, rows: &mut [u32], ops: &[u32; OPS]) -> Bench
-    requires { (0 < bench.height) × (load bench ≤ 518) × (length rows.old ≡ row_room) × (length ops.now ≡ op_room) }
+    requires { (0 < bench.height) × (load bench ≤ 518) × (length rows.old ≡ row_room) }
     ensures { (result.height + 1 ≡ bench.height) × ((opens : List ℕ) → Worked bench rows.old ops.now opens filled result
         rows.new ops.now opens 0) }
 {
@@ -104,7 +104,7 @@ pub fn settle_frames(
     opens: &[usize; OPENS],
     k: usize,
 ) -> Bench
-    requires { (load bench ≤ 518) × (length rows.old ≡ row_room) × (length ops.now ≡ op_room) × (length opens.now ≡ open_room) }
+    requires { (load bench ≤ 518) × (length rows.old ≡ row_room) }
     ensures { Worked bench rows.old ops.now opens.now (settled k) result rows.new ops.now
         opens.now 0 }
 {
@@ -118,7 +118,7 @@ pub fn settle_frames(
 
 // A round bracket opens behind the top frame.
 pub fn open_group(height: usize, opens: &mut [usize; OPENS])
-    requires { (height ≤ 260) × (length opens.old ≡ open_room) × Countable height opens.old }
+    requires { (height ≤ 260) × Countable height opens.old }
     ensures { Opened open_group height opens.old opens.new }
 {
     if height == 0 {
@@ -131,7 +131,7 @@ pub fn open_group(height: usize, opens: &mut [usize; OPENS])
 
 // So does boolean(), and is then the last of those.
 pub fn open_truth(height: usize, opens: &mut [usize; OPENS])
-    requires { (height ≤ 260) × (length opens.old ≡ open_room) × Countable height opens.old }
+    requires { (height ≤ 260) × Countable height opens.old }
     ensures { Opened open_truth height opens.old opens.new }
 {
     if height == 0 {
@@ -144,7 +144,7 @@ pub fn open_truth(height: usize, opens: &mut [usize; OPENS])
 
 // The bracket of not() or count() closes: the frame is the row.
 fn close_call(bench: Bench, rows: &mut [u32], ops: &[u32; OPS]) -> Bench
-    requires { (0 < bench.height) × (load bench ≤ 518) × (length rows.old ≡ row_room) × (length ops.now ≡ op_room) }
+    requires { (0 < bench.height) × (load bench ≤ 518) × (length rows.old ≡ row_room) }
     ensures { (opens : List ℕ) → Worked bench rows.old ops.now opens close_call result rows.new
         ops.now opens 0 }
 {
@@ -173,7 +173,7 @@ pub fn close_round(
     ops: &[u32; OPS],
     opens: &mut [usize; OPENS],
 ) -> Bench
-    requires { (load bench ≤ 518) × (length rows.old ≡ row_room) × (length ops.now ≡ op_room) × (length opens.old ≡ open_room) }
+    requires { (load bench ≤ 518) × (length rows.old ≡ row_room) }
     ensures { Worked bench rows.old ops.now opens.old close_round result rows.new ops.now
         opens.new 2 }
 {
@@ -200,7 +200,7 @@ pub fn close_round(
 
 // `]` behind a settled desk.
 pub fn close_square(bench: Bench, rows: &mut [u32], ops: &[u32; OPS]) -> Bench
-    requires { (load bench ≤ 518) × (length rows.old ≡ row_room) × (length ops.now ≡ op_room) }
+    requires { (load bench ≤ 518) × (length rows.old ≡ row_room) }
     ensures { (opens : List ℕ) → Worked bench rows.old ops.now opens close_square result rows.new
         ops.now opens 0 }
 {
@@ -230,7 +230,7 @@ pub fn close_square(bench: Bench, rows: &mut [u32], ops: &[u32; OPS]) -> Bench
 
 // How many paths are to come.
 pub fn paths_in(ops: &[u32; OPS], height: usize) -> usize
-    requires { (height ≤ 260) × (length ops.now ≡ op_room) }
+    requires { height ≤ 260 }
     ensures { ((opens : List ℕ) → result ≡ paths_in (frames_of ops.now opens height)) × (result ≤ height) }
 {
     let mut count = 0;

@@ -5,7 +5,7 @@ ghost use Rattle.text.specs.Limited.{Source};
 ghost use Rattle.text.specs.Reading.{index_of, with};
 ghost use Rattle.text.specs.Survey.{mode_after};
 ghost use Rattle.text.specs.Composing.{path_from, point_read, axis_read, test_read, step_ended, number_read, compose_token};
-ghost use Rattle.compose.specs.Standing.{mode_of, row_room, op_room, open_room, value_room, Read, word_number};
+ghost use Rattle.compose.specs.Standing.{mode_of, row_room, value_room, Read, word_number};
 ghost use Rattle.compose.specs.Deals.{Roomy, of_step};
 
 use crate::desk::{paths_in, push_frame, settle_frames};
@@ -21,7 +21,7 @@ use text::Sort;
 
 // A path begins with this op where an operand is due; behind a step it goes on.
 fn path_from(state: State, ops: &mut [u32; OPS], opens: &mut [usize; OPENS], op: u32) -> State
-    requires { (state.mode < 14) × (state.bench.height < 260) × (length ops.old ≡ op_room) × (length opens.old ≡ open_room) }
+    requires { (state.mode < 14) × (state.bench.height < 260) }
     ensures { (result.mode ≡ state.mode) × ((rows : List ℕ) (values : List Float) → Read state rows ops.old opens.old values
         (path_from op) result rows ops.new opens.new values 2) }
 {
@@ -75,7 +75,7 @@ fn test_token(
     ops: &mut [u32; OPS],
     opens: &mut [usize; OPENS],
 ) -> State
-    requires { (state.bench.height < 260) × (length ops.old ≡ op_room) × (length opens.old ≡ open_room) }
+    requires { state.bench.height < 260 }
     ensures { (result.mode ≡ mode) × ((rows : List ℕ) (values : List Float) → Read state rows ops.old opens.old values
         (test_read (mode_of mode) test) result rows ops.new opens.new values 2) }
 {

@@ -13,7 +13,7 @@ returns-then-passed c = composes_stopped _ _ _ _ _ refl
 pub settle_frames-settled-requires : goal.settle_frames-settled-requires
 settle_frames-settled-requires c =
     let light = c.pass_over-passed.ensures.light c.if-passed.false in
-    (omega (arith, light), search rules, search rules, search rules)
+    (omega (arith, light), search rules)
 
 pub returns : goal.returns
 returns c =

@@ -1,7 +1,6 @@
 -- `compose::deal::operator_token` meets its contract.
 -- Assumes nothing.
 use native.Mathlib.Omega.{arith}
-use borrow.Author.Rules.{rules}
 use Rattle.compose.proofs.Frames.{worked_as}
 use Rattle.compose.proofs.Deals.{worked_then, does_operate}
 use Rattle.compose.proofs.deal.operator_token.Goals as goal
@@ -9,11 +8,8 @@ use Rattle.compose.proofs.deal.operator_token.Goals as goal
 pub push_frame-requires : goal.push_frame-requires
 push_frame-requires c =
     let most = (c.left_operand-left.ensures
-    c.args.ops.now c.args.opens.now).most in (
-      omega (arith, most, c.settle_frames-settled.ensures.most),
-      search rules,
-      search rules,
-    )
+    c.args.ops.now c.args.opens.now).most in
+    omega (arith, most, c.settle_frames-settled.ensures.most)
 
 pub returns : goal.returns
 returns c =

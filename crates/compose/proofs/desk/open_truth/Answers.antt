@@ -13,7 +13,7 @@ returns-then-height-eq0 c = opened_none open_truth _ _ (λ p. refl) c.if-height-
 
 pub overflow_add-open : goal.overflow_add-open
 unfolding Countable
-overflow_add-open c = let few = c.requires.2 (omega arith) in record { fits = omega (arith, few) }
+overflow_add-open c = let few = c.requires.1 (omega arith) in record { fits = omega (arith, few) }
 
 pub returns : goal.returns
 returns c = opened_truth _ _ _ (omega arith) (omega arith) c.store_open.ensures

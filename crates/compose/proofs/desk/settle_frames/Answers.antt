@@ -10,7 +10,7 @@ loop-rows-init c = settling_start
 
 pub fill_top-left-requires : goal.fill_top-left-requires
 fill_top-left-requires c =
-    (fills_some _ _ _ _ (sym c.may_fill.ensures ∙ c.loop-rows-test.true), omega arith, search rules, search rules)
+    (fills_some _ _ _ _ (sym c.may_fill.ensures ∙ c.loop-rows-test.true), omega arith, search rules)
 
 pub loop-rows-smaller : goal.loop-rows-smaller
 loop-rows-smaller c = omega arith

@@ -3,7 +3,6 @@ use Rattle.text.specs.declared.Run.TheVariants.{Spaces}
 use native.Mathlib.Omega.{arith}
 use mathlib.Core.Path.{sym, ◌∙◌}
 use mathlib.Core.Bool.{true≢false}
-use lib.ListN.{length}
 use borrow.Author.Tests.{ltb-true, ltb-false}
 use Rattle.text.proofs.Lexemes.{run_behind}
 use Rattle.compose.proofs.Passing.{found_takes, passing_start, next_spelled, next_place, next_roomy, next_countable, passing_full, passing_next, passing_done}

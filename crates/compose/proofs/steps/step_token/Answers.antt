@@ -21,7 +21,7 @@ point_token-requires-in-5 c =
 pub test_token-requires : goal.test_token-requires
 test_token-requires c =
     let most = (c.path_from-begun.ensures.1 [] []).most in
-    (omega (arith, most), search rules, search rules)
+    omega (arith, most)
 
 pub returns-in-4 : goal.returns-in-4
 returns-in-4 c =
