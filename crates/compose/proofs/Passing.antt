@@ -7,7 +7,7 @@ use mathlib.Core.Path.{◌≡◌, refl, sym, ◌∙◌, ap, subst}
 use mathlib.Core.Bool.{Bool, false}
 use mathlib.Core.Logic.{inl, inr, ⊎_elim}
 use mathlib.Core.List.{List, [], ◌∷◌}
-use lib.ListN.{length, take, replicate, length-replicate}
+use lib.ListN.{length, take, replicate}
 use lib.Seq.{take_all, length-take-le}
 use lib.Ieee.{Float}
 use Rattle.meaning.proofs.Bools.{lt_or_ge}
@@ -104,8 +104,6 @@ pub record Passing (text list rows ops opens : List ℕ) (values : List Float) (
   pub light : state.bench.hand.rows + state.bench.height ≤ 257
   pub known : state.mode < 14
   pub rows_room : length rows ≡ row_room
-  pub ops_room : length ops ≡ op_room
-  pub opens_room : length opens ≡ open_room
   pub values_room : length values ≡ value_room
 
 nothing_drafted :
@@ -133,8 +131,6 @@ passing_start text list rows ops opens values s next z o p l v f =
       light = omega arith;
       known = omega arith;
       rows_room = l;
-      ops_room = length-replicate {A = ℕ} op_room 0;
-      opens_room = length-replicate {A = ℕ} open_room 0;
       values_room = v;
     })
 
@@ -152,8 +148,8 @@ module _ {text list rows ops opens : List ℕ} {values : List Float} {state : St
       pub next_place : place (source text list) p.k ≡ next.begin
       next_place = cut_place p.cut stands list
 
-      pub next_roomy : Roomy 514 state.bench rows ops opens
-      next_roomy = record { light = omega (arith, p.light); rows_room = p.rows_room; ops_room = p.ops_room; opens_room = p.opens_room }
+      pub next_roomy : Roomy 514 state.bench rows
+      next_roomy = record { light = omega (arith, p.light); rows_room = p.rows_room }
 
       pub next_countable : length text ≤ 18446744073709551615 → Countable state.bench.height opens
       unfolding draft_at
@@ -181,12 +177,11 @@ module _ {text list rows ops opens : List ℕ} {values : List Float} {state : St
             (p.k + 1, omega (arith, cut_count p.cut stands), omega (arith, e))
 
         pub passing_next :
-            (next' : Next) → r.mode < 14 → r.bench.hand.rows + r.bench.height ≤ 257 → length rows' ≡ row_room → length ops' ≡ op_room
-            → length opens' ≡ open_room → length values' ≡ value_room → {due : Bool} → due ≡ operator_due next.kind → Found text
+            (next' : Next) → r.mode < 14 → r.bench.hand.rows + r.bench.height ≤ 257 → length rows' ≡ row_room → length values' ≡ value_room → {due : Bool} → due ≡ operator_due next.kind → Found text
             next.end due next'
             → Passing text list rows' ops' opens' values' r next'
         unfolding code
-        passing_next next' m l a b c d e f =
+        passing_next next' m l a d e f =
             let takes = found_takes p.found h in
             record {
               k = p.k + 1;
@@ -200,8 +195,6 @@ module _ {text list rows ops opens : List ℕ} {values : List Float} {state : St
               light = l;
               known = m;
               rows_room = a;
-              ops_room = b;
-              opens_room = c;
               values_room = d;
             }
 

@@ -1,18 +1,16 @@
--- What tokens that change the desk alone do to it, by the numbers that the code has; and the room that the slices have.
+-- What tokens that change the desk alone do to it, by the numbers that the code has; and the room that the rows have.
 -- Assumes nothing: these are definitions.
 use Rattle.std.specs.Prelude.{ℕ, ◌≤◌, ◌≡◌, Bool, cond, ◌||◌, ◌&&◌, List, length, eqb, leb}
 use Rattle.text.specs.declared.Sort.TheVariants.{Numeral}
 use Rattle.text.specs.Machine.{has, beginning, signing, ending}
 use Rattle.text.specs.Composing.{Desk, put, truthful, strength_of, settled, with_pen, push, open_group, open_truth, close_round, close_square}
 use Rattle.compose.specs.declared.Bench.{Bench}
-use Rattle.compose.specs.Standing.{mode_of, row_room, op_room, open_room, load}
+use Rattle.compose.specs.Standing.{mode_of, row_room, load}
 
--- the load is at most k, and the slices have their lengths
-pub record Roomy (k : ℕ) (b : Bench) (rows ops opens : List ℕ) : Type 0 where
+-- the load is at most k, and the rows have their room; the frames and brackets are arrays, whose types have theirs
+pub record Roomy (k : ℕ) (b : Bench) (rows : List ℕ) : Type 0 where
   pub light : load b ≤ k
   pub rows_room : length rows ≡ row_room
-  pub ops_room : length ops ≡ op_room
-  pub opens_room : length opens ≡ open_room
 
 -- `(`, `)` and `]`
 unfoldable pub opened : ℕ → Desk → Desk

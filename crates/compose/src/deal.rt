@@ -37,7 +37,7 @@ fn close_token(
     ops: &[u32; OPS],
     opens: &mut [usize; OPENS],
 ) -> Bench
-    requires { (mode < 14) × Roomy 516 bench rows.old ops.now opens.old }
+    requires { (mode < 14) × Roomy 516 bench rows.old }
     ensures { Worked bench rows.old ops.now opens.old (closed mode) result rows.new ops.now
         opens.new 4 }
 {
@@ -50,7 +50,7 @@ fn close_token(
 
 // `]` closes a predicate.
 fn square_token(bench: Bench, rows: &mut [u32], ops: &[u32; OPS], opens: &[usize; OPENS]) -> Bench
-    requires { Roomy 516 bench rows.old ops.now opens.now }
+    requires { Roomy 516 bench rows.old }
     ensures { Worked bench rows.old ops.now opens.now squared result rows.new ops.now
         opens.now 4 }
 {
@@ -66,7 +66,7 @@ fn call_token(
     ops: &mut [u32; OPS],
     opens: &mut [usize; OPENS],
 ) -> Bench
-    requires { Roomy 516 bench rows.old ops.old opens.old × Countable bench.height opens.old }
+    requires { Roomy 516 bench rows.old × Countable bench.height opens.old }
     ensures { Worked bench rows.old ops.old opens.old (called number) result rows.new ops.new
         opens.new 4 }
 {
@@ -119,7 +119,7 @@ fn operator_token(
     ops: &mut [u32; OPS],
     opens: &mut [usize; OPENS],
 ) -> Bench
-    requires { Roomy 516 bench rows.old ops.old opens.old }
+    requires { Roomy 516 bench rows.old }
     ensures { Worked bench rows.old ops.old opens.old (operated op) result rows.new ops.new
         opens.new 4 }
 {
@@ -137,7 +137,7 @@ fn minus_token(
     ops: &mut [u32; OPS],
     opens: &mut [usize; OPENS],
 ) -> Bench
-    requires { (mode < 14) × Roomy 516 bench rows.old ops.old opens.old }
+    requires { (mode < 14) × Roomy 516 bench rows.old }
     ensures { Worked bench rows.old ops.old opens.old (signed mode) result rows.new ops.new
         opens.new 4 }
 {
@@ -181,7 +181,7 @@ pub fn desk_token(
     ops: &mut [u32; OPS],
     opens: &mut [usize; OPENS],
 ) -> Bench
-    requires { (mode < 14) × (kind < 33) × (of_desk kind ≡ true) × Roomy 516 bench rows.old ops.old opens.old
+    requires { (mode < 14) × (kind < 33) × (of_desk kind ≡ true) × Roomy 516 bench rows.old
         × Countable bench.height opens.old }
     ensures { Dealt kind number mode bench rows.old ops.old opens.old result rows.new ops.new
         opens.new }

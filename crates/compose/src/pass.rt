@@ -57,7 +57,7 @@ fn read_next(
     values: &mut [f64],
 ) -> State
     requires { Spelled text.now names.now.list.now next.kind next.begin next.end
-        × (next.kind < 33) × (state.mode < 14) × Roomy 514 state.bench rows.old ops.old opens.old × (state.literals < value_room)
+        × (next.kind < 33) × (state.mode < 14) × Roomy 514 state.bench rows.old × (state.literals < value_room)
         × (length values.old ≡ value_room) × Countable state.bench.height opens.old }
     ensures { (result.mode < 14) × ((i : ℕ) → place (source text.now names.now.list.now) i ≡ next.begin
         → Read state rows.old ops.old opens.old values.old

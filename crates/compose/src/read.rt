@@ -36,7 +36,7 @@ pub fn read_token(
     opens: &mut [usize; OPENS],
     values: &mut [f64],
 ) -> State
-    requires { (kind < 33) × (state.mode < 14) × Roomy 514 state.bench rows.old ops.old opens.old × (state.literals < value_room)
+    requires { (kind < 33) × (state.mode < 14) × Roomy 514 state.bench rows.old × (state.literals < value_room)
         × (length values.old ≡ value_room) × Countable state.bench.height opens.old }
     ensures { (result.mode < 14) × ((s : Source) (i : ℕ) → number ≡ word_number s i kind → (kind ≡ 15 → value ≡ value_at s.text (place s i))
         → Read state rows.old ops.old opens.old values.old (λ w. compose_token s w i (class_of kind)) result

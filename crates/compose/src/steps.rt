@@ -90,7 +90,7 @@ fn test_token(
 
 // `/` and `//` behind a step.
 fn step_ended(state: State, rows: &mut [u32], ops: &[u32; OPS], opens: &[usize; OPENS]) -> State
-    requires { (state.mode < 14) × Roomy 518 state.bench rows.old ops.now opens.now }
+    requires { (state.mode < 14) × Roomy 518 state.bench rows.old }
     ensures { (values : List Float) → Read state rows.old ops.now opens.now values step_ended result
         rows.new ops.now opens.now values 0 }
 {
@@ -112,7 +112,7 @@ pub fn step_token(
     opens: &mut [usize; OPENS],
 ) -> State
     requires { (state.mode < 14) × (mode_of mode ≡ mode_after (mode_of state.mode) (class_of kind)) × (of_step kind ≡ true)
-        × Roomy 514 state.bench rows.old ops.old opens.old }
+        × Roomy 514 state.bench rows.old }
     ensures { (result.mode ≡ mode) × ((values : List Float) (s : Source) (i : ℕ) → number ≡ word_number s i kind
         → Read state rows.old ops.old opens.old values (λ w. compose_token s w i (class_of kind)) result
         rows.new ops.new opens.new values 4) }
@@ -136,7 +136,7 @@ pub fn slash_token(
     opens: &mut [usize; OPENS],
 ) -> State
     requires { (state.mode < 14) × (mode_of mode ≡ mode_after (mode_of state.mode) (class_of kind)) × (17 ≤ kind) × (kind ≤ 18)
-        × Roomy 514 state.bench rows.old ops.old opens.old }
+        × Roomy 514 state.bench rows.old }
     ensures { (result.mode ≡ mode) × ((values : List Float) (s : Source) (i : ℕ)
         → Read state rows.old ops.old opens.old values (λ w. compose_token s w i (class_of kind)) result
         rows.new ops.new opens.new values 4) }

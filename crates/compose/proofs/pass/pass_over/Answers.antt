@@ -72,7 +72,7 @@ loop-next-preserved c =
     c.loop-next.invariant.k (next_place c.loop-next.invariant c.loop-next-test.true) in
     let p = c.loop-next.invariant in
     passing_next p c.loop-next-test.true w _ c.read_next-state.ensures.0 (ltb-false _ _ (sym c.is_full.ensures ∙ c.if-is_full.false))
-    (omega (arith, p.rows_room)) (omega (arith, p.ops_room)) (omega (arith, p.opens_room)) (omega (arith, p.values_room))
+    (omega (arith, p.rows_room)) (omega (arith, p.values_room))
     c.is_due.ensures c.next_token-next-in-loop-next.ensures
 
 pub shape_of-rows : goal.shape_of-rows

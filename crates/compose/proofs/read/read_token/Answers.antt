@@ -17,8 +17,6 @@ desk_token-bench-requires c = (
         (arith, c.requires.2.light);
     rows_room = search
         rules;
-    ops_room = search rules;
-    opens_room = search rules;
   },
   c.requires.5,
 )
@@ -54,8 +52,6 @@ slash_token-requires c = (
     light = omega
         (arith, c.requires.2.light);
     rows_room = search rules;
-    ops_room = search rules;
-    opens_room = search rules;
   },
 )
 
@@ -78,8 +74,6 @@ step_token-requires c = (
     light = omega
         (arith, c.requires.2.light);
     rows_room = search rules;
-    ops_room = search rules;
-    opens_room = search rules;
   },
 )
 

@@ -10,7 +10,7 @@ use Rattle.compose.proofs.steps.slash_token.Goals as goal
 pub step_ended-ended-requires : goal.step_ended-ended-requires
 step_ended-ended-requires c =
     let most = (c.path_from-begun.ensures.1 [] []).most in
-    (omega arith, record { light = omega (arith, most); rows_room = search rules; ops_room = search rules; opens_room = search rules })
+    (omega arith, record { light = omega (arith, most); rows_room = search rules })
 
 pub point_token-requires : goal.point_token-requires
 point_token-requires c =
