@@ -225,7 +225,7 @@ pub enum Group {
 }
 
 // The group of each class, at its number.
-const GROUPS: [Group; 34] = [
+static GROUPS: [Group; 34] = [
     Group::Round,
     Group::Other,
     Group::Square,
@@ -271,7 +271,7 @@ pub fn group_of(k: usize) -> Group
 }
 
 // How strongly the operators bind, in the order of their classes, of which the first is 20.
-const TIGHTNESSES: [usize; 13] = [5, 5, 3, 3, 4, 4, 4, 4, 6, 2, 1, 6, 6];
+static TIGHTNESSES: [usize; 13] = [5, 5, 3, 3, 4, 4, 4, 4, 6, 2, 1, 6, 6];
 
 // How strongly the operator of a class binds; 0 for what is no operator.
 #[tactic(auto, unfolding(crate::specs::Levels::tightness_of))]

@@ -6,7 +6,7 @@ ghost use Rattle.modes.specs.Acts.{act_of};
 
 // A row of fourteen modes for each class of tokens: 0 is a refusal, 1 + m leads to the mode m, 15 to 17 open a bracket, 18 and 19 close one,
 // and 20 parts two arguments. Acts are bytes here, so that the whole table lies in a few cache lines; act_of has what each number means.
-const ACTS: [[u8; 14]; 34] = [
+static ACTS: [[u8; 14]; 34] = [
     [15, 15, 15, 0, 0, 0, 0, 9, 0, 11, 0, 16, 0, 0],
     [0, 18, 0, 18, 0, 0, 0, 0, 14, 0, 14, 0, 18, 18],
     [0, 0, 0, 0, 0, 0, 0, 0, 0, 0, 0, 0, 0, 17],
