@@ -148,7 +148,7 @@ fn minus_token(
 }
 
 // The ops of the binary operators, in the order of their classes.
-const OPERATIONS: [u32; 13] = [
+static OPERATIONS: [u32; 13] = [
     ADD,
     SUBTRACT,
     EQUAL,

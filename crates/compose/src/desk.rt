@@ -57,7 +57,7 @@ pub fn push_frame(
 }
 
 // How strongly the row of each op to come binds.
-const STRENGTHS: [usize; 26] = [
+static STRENGTHS: [usize; 26] = [
     0, 0, 0, 0, 5, 5, 6, 6, 6, 7, 3, 3, 4, 4, 4, 4, 2, 1, 0, 0, 0, 0, 9, 9, 11, 0,
 ];
 
