@@ -1,5 +1,5 @@
--- How the code's registers and slices stand for the draft of the composing machine (crates/text/specs/Composing.antt): the rows written stand
--- at the front of one slice, a frame takes four numbers of another and two of a third, the bottom frame first.
+-- How the code's registers, slices and arrays stand for the draft of the composing machine (crates/text/specs/Composing.antt): the rows written stand
+-- at the front of one slice, a frame takes four numbers of one array and two of another, the bottom frame first.
 -- Assumes nothing: these are definitions.
 use Rattle.std.specs.Prelude.{ℕ, zero, suc, ◌+◌, ◌-◌, ◌*◌, ◌≤◌, ◌<◌, ◌≡◌, Bool, false, cond, List, [], ◌∷◌, length, get_or, take, eqb, Float}
 use Rattle.names.specs.Names.{position}
@@ -46,7 +46,7 @@ draft_of s rows ops opens values = draft (mode_of s.mode) s.axis (take s.literal
 
 -- ---- what functions promise
 
--- the slices' lengths: 520 rows and 260 frames, which one token cannot overrun where at most 257 rows are committed before it
+-- their lengths: 520 rows and 260 frames, which one token cannot overrun where at most 257 rows are committed before it
 abbrev pub row_room : ℕ
 row_room = 2600
 

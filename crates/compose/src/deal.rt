@@ -16,7 +16,7 @@ use crate::ops::{
     NEGATE, NEGATION, OR, POSITION, PREDICATE, REMAINDER, SUBTRACT, UNEQUAL,
 };
 use crate::pen::{made_truth, write_row};
-use crate::{Bench, OPENS, OPS};
+use crate::{Bench, OPENS, Stack};
 use text::{Function, Sort};
 
 // `(` where an operand is due is a group's.
@@ -30,45 +30,33 @@ fn open_token(mode: usize, height: usize, opens: &mut [usize; OPENS])
 }
 
 // `)` where an operand is whole closes a group or a call.
-fn close_token(
-    mode: usize,
-    bench: Bench,
-    rows: &mut [u32],
-    ops: &[u32; OPS],
-    opens: &mut [usize; OPENS],
-) -> Bench
+fn close_token(mode: usize, bench: Bench, rows: &mut [u32], frames: &mut Stack) -> Bench
     requires { (mode < 14) × Roomy 516 bench rows.old }
-    ensures { Worked bench rows.old ops.now opens.old (closed mode) result rows.new ops.now
-        opens.new 4 }
+    ensures { Worked bench rows.old frames.old.ops frames.old.opens (closed mode) result rows.new frames.new.ops
+        frames.new.opens 4 }
 {
     if is_ending(mode) {
-        let settled = settle_frames(bench, rows, ops, opens, 1);
-        return close_round(settled, rows, ops, opens);
+        let settled = settle_frames(bench, rows, frames, 1);
+        return close_round(settled, rows, frames);
     }
     bench
 }
 
 // `]` closes a predicate.
-fn square_token(bench: Bench, rows: &mut [u32], ops: &[u32; OPS], opens: &[usize; OPENS]) -> Bench
+fn square_token(bench: Bench, rows: &mut [u32], frames: &Stack) -> Bench
     requires { Roomy 516 bench rows.old }
-    ensures { Worked bench rows.old ops.now opens.now squared result rows.new ops.now
-        opens.now 4 }
+    ensures { Worked bench rows.old frames.now.ops frames.now.opens squared result rows.new frames.now.ops
+        frames.now.opens 4 }
 {
-    let settled = settle_frames(bench, rows, ops, opens, 1);
-    close_square(settled, rows, ops)
+    let settled = settle_frames(bench, rows, frames, 1);
+    close_square(settled, rows, &frames.ops)
 }
 
 // position() and last() are rows, count() and not() rows to come.
-fn call_token(
-    number: u32,
-    bench: Bench,
-    rows: &mut [u32],
-    ops: &mut [u32; OPS],
-    opens: &mut [usize; OPENS],
-) -> Bench
-    requires { Roomy 516 bench rows.old × Countable bench.height opens.old }
-    ensures { Worked bench rows.old ops.old opens.old (called number) result rows.new ops.new
-        opens.new 4 }
+fn call_token(number: u32, bench: Bench, rows: &mut [u32], frames: &mut Stack) -> Bench
+    requires { Roomy 516 bench rows.old × Countable bench.height frames.old.opens }
+    ensures { Worked bench rows.old frames.old.ops frames.old.opens (called number) result rows.new frames.new.ops
+        frames.new.opens 4 }
 {
     let hand = bench.hand;
     match Function::from(number as usize) {
@@ -86,10 +74,10 @@ fn call_token(
                 ..bench
             }
         }
-        Function::CountCall => push_frame(bench, ops, opens, COUNT, 0, 0),
-        Function::NotCall => push_frame(bench, ops, opens, NEGATION, 0, 0),
+        Function::CountCall => push_frame(bench, frames, COUNT, 0, 0),
+        Function::NotCall => push_frame(bench, frames, NEGATION, 0, 0),
         Function::BooleanCall => {
-            open_truth(bench.height, opens);
+            open_truth(bench.height, &mut frames.opens);
             bench
         }
         Function::OtherCall => bench,
@@ -112,39 +100,27 @@ fn left_operand(bench: Bench, rows: &mut [u32], k: usize) -> Bench
 }
 
 // An operator fills the frames that bind as strongly, and is a row to come.
-fn operator_token(
-    op: u32,
-    bench: Bench,
-    rows: &mut [u32],
-    ops: &mut [u32; OPS],
-    opens: &mut [usize; OPENS],
-) -> Bench
+fn operator_token(op: u32, bench: Bench, rows: &mut [u32], frames: &mut Stack) -> Bench
     requires { Roomy 516 bench rows.old }
-    ensures { Worked bench rows.old ops.old opens.old (operated op) result rows.new ops.new
-        opens.new 4 }
+    ensures { Worked bench rows.old frames.old.ops frames.old.opens (operated op) result rows.new frames.new.ops
+        frames.new.opens 4 }
 {
     let k = strength(op);
-    let settled = settle_frames(bench, rows, ops, opens, k);
+    let settled = settle_frames(bench, rows, frames, k);
     let left = left_operand(settled, rows, k);
-    push_frame(left, ops, opens, op, 0, 0)
+    push_frame(left, frames, op, 0, 0)
 }
 
 // `-` where an operand is due is a sign.
-fn minus_token(
-    mode: usize,
-    bench: Bench,
-    rows: &mut [u32],
-    ops: &mut [u32; OPS],
-    opens: &mut [usize; OPENS],
-) -> Bench
+fn minus_token(mode: usize, bench: Bench, rows: &mut [u32], frames: &mut Stack) -> Bench
     requires { (mode < 14) × Roomy 516 bench rows.old }
-    ensures { Worked bench rows.old ops.old opens.old (signed mode) result rows.new ops.new
-        opens.new 4 }
+    ensures { Worked bench rows.old frames.old.ops frames.old.opens (signed mode) result rows.new frames.new.ops
+        frames.new.opens 4 }
 {
     if is_signing(mode) {
-        return push_frame(bench, ops, opens, NEGATE, 0, 0);
+        return push_frame(bench, frames, NEGATE, 0, 0);
     }
-    operator_token(SUBTRACT, bench, rows, ops, opens)
+    operator_token(SUBTRACT, bench, rows, frames)
 }
 
 // The ops of the binary operators, in the order of their classes.
@@ -178,29 +154,28 @@ pub fn desk_token(
     mode: usize,
     bench: Bench,
     rows: &mut [u32],
-    ops: &mut [u32; OPS],
-    opens: &mut [usize; OPENS],
+    frames: &mut Stack,
 ) -> Bench
     requires { (mode < 14) × (kind < 33) × (of_desk kind ≡ true) × Roomy 516 bench rows.old
-        × Countable bench.height opens.old }
-    ensures { Dealt kind number mode bench rows.old ops.old opens.old result rows.new ops.new
-        opens.new }
+        × Countable bench.height frames.old.opens }
+    ensures { Dealt kind number mode bench rows.old frames.old.ops frames.old.opens result rows.new frames.new.ops
+        frames.new.opens }
 {
     if kind == MINUS {
-        return minus_token(mode, bench, rows, ops, opens);
+        return minus_token(mode, bench, rows, frames);
     }
     if PLUS <= kind {
-        return operator_token(operation_of(kind), bench, rows, ops, opens);
+        return operator_token(operation_of(kind), bench, rows, frames);
     }
     match kind {
         OPENING => {
-            open_token(mode, bench.height, opens);
+            open_token(mode, bench.height, &mut frames.opens);
             bench
         }
-        CLOSING => close_token(mode, bench, rows, ops, opens),
-        OPENING_SQUARE => push_frame(bench, ops, opens, PREDICATE, 0, 0),
-        CLOSING_SQUARE => square_token(bench, rows, ops, opens),
-        FUNCTION_NAME => call_token(number, bench, rows, ops, opens),
+        CLOSING => close_token(mode, bench, rows, frames),
+        OPENING_SQUARE => push_frame(bench, frames, PREDICATE, 0, 0),
+        CLOSING_SQUARE => square_token(bench, rows, frames),
+        FUNCTION_NAME => call_token(number, bench, rows, frames),
         _ => bench,
     }
 }

@@ -1,4 +1,4 @@
-// Frames, which are rows to come: four numbers of one slice, the op, the link that it has already, an axis and a test, and two of another, how
+// Frames, which are rows to come: four numbers of one array, the op, the link that it has already, an axis and a test, and two of another, how
 // many round brackets are open behind it and which of those was the last boolean().
 ghost use Rattle.std.specs.Prelude.{◌≡◌, List, [], ◌∷◌, ℕ, ◌+◌, ◌-◌, ◌*◌, ◌<◌, ◌≤◌, length};
 ghost use Rattle.std.proofs.lemmas.List.Edits.{sets};
@@ -7,7 +7,7 @@ ghost use Rattle.compose.specs.Standing.{frames_of, row_room, load, Worked, top_
 
 use crate::ops::{ABSOLUTE, NEGATION, RELATIVE};
 use crate::pen::{fill_row, made_predicate, made_truth, write_row};
-use crate::{Bench, Hand, OPENS, OPS};
+use crate::{Bench, Hand, OPENS, OPS, Stack};
 use text::Sort;
 
 fn store_frame(ops: &mut [u32], at: usize, op: u32, a: u32, c: u32, d: u32)
@@ -29,22 +29,15 @@ fn store_open(opens: &mut [usize], at: usize, o: usize, t: usize)
 }
 
 // A frame that has the link in hand; then nothing is in hand.
-pub fn push_frame(
-    bench: Bench,
-    ops: &mut [u32; OPS],
-    opens: &mut [usize; OPENS],
-    op: u32,
-    c: u32,
-    d: u32,
-) -> Bench
+pub fn push_frame(bench: Bench, frames: &mut Stack, op: u32, c: u32, d: u32) -> Bench
     requires { bench.height < 260 }
-    ensures { (rows : List ℕ) → Worked bench rows ops.old opens.old (push op c d) result rows ops.new
-        opens.new 2 }
+    ensures { (rows : List ℕ) → Worked bench rows frames.old.ops frames.old.opens (push op c d) result rows frames.new.ops
+        frames.new.opens 2 }
 {
     let height = bench.height;
     let hand = bench.hand;
-    store_frame(ops, 4 * height, op, hand.link, c, d);
-    store_open(opens, 2 * height, 0, 0);
+    store_frame(&mut frames.ops, 4 * height, op, hand.link, c, d);
+    store_open(&mut frames.opens, 2 * height, 0, 0);
     let empty = Hand {
         link: 0,
         sort: Sort::Unheld,
@@ -69,15 +62,15 @@ pub fn strength(op: u32) -> usize
 }
 
 // Does the top frame bind at least as strongly as k, with no bracket open behind it?
-fn may_fill(k: usize, ops: &[u32; OPS], opens: &[usize; OPENS], height: usize) -> bool
+fn may_fill(k: usize, frames: &Stack, height: usize) -> bool
     requires { height ≤ 260 }
-    ensures { result ≡ top_fills k (frames_of ops.now opens.now height) }
+    ensures { result ≡ top_fills k (frames_of frames.now.ops frames.now.opens height) }
 {
     if height == 0 {
         return false;
     }
     let top = height - 1;
-    k <= strength(ops[4 * top]) && opens[2 * top] == 0
+    k <= strength(frames.ops[4 * top]) && frames.opens[2 * top] == 0
 }
 
 // The top frame is filled.
@@ -97,21 +90,15 @@ fn fill_top(bench: Bench, rows: &mut [u32], ops: &[u32; OPS]) -> Bench
 }
 
 // The frames at the top that bind at least as strongly as k are filled.
-pub fn settle_frames(
-    bench: Bench,
-    rows: &mut [u32],
-    ops: &[u32; OPS],
-    opens: &[usize; OPENS],
-    k: usize,
-) -> Bench
+pub fn settle_frames(bench: Bench, rows: &mut [u32], frames: &Stack, k: usize) -> Bench
     requires { (load bench ≤ 518) × (length rows.old ≡ row_room) }
-    ensures { Worked bench rows.old ops.now opens.now (settled k) result rows.new ops.now
-        opens.now 0 }
+    ensures { Worked bench rows.old frames.now.ops frames.now.opens (settled k) result rows.new frames.now.ops
+        frames.now.opens 0 }
 {
     let mut left = bench;
     // Until nothing more may be filled: it counts no index.
-    while may_fill(k, ops, opens, left.height) {
-        left = fill_top(left, rows, ops);
+    while may_fill(k, frames, left.height) {
+        left = fill_top(left, rows, &frames.ops);
     }
     left
 }
@@ -167,27 +154,22 @@ fn close_call(bench: Bench, rows: &mut [u32], ops: &[u32; OPS]) -> Bench
 }
 
 // `)` behind a settled desk. Behind the last boolean() the value is a truth already.
-pub fn close_round(
-    bench: Bench,
-    rows: &mut [u32],
-    ops: &[u32; OPS],
-    opens: &mut [usize; OPENS],
-) -> Bench
+pub fn close_round(bench: Bench, rows: &mut [u32], frames: &mut Stack) -> Bench
     requires { (load bench ≤ 518) × (length rows.old ≡ row_room) }
-    ensures { Worked bench rows.old ops.now opens.old close_round result rows.new ops.now
-        opens.new 2 }
+    ensures { Worked bench rows.old frames.old.ops frames.old.opens close_round result rows.new frames.new.ops
+        frames.new.opens 2 }
 {
     let height = bench.height;
     if height == 0 {
         return bench;
     }
     let at = 2 * (height - 1);
-    let open = opens[at];
-    let last = opens[at + 1];
+    let open = frames.opens[at];
+    let last = frames.opens[at + 1];
     if open == 0 {
-        return close_call(bench, rows, ops);
+        return close_call(bench, rows, &frames.ops);
     }
-    opens[at] = open - 1;
+    frames.opens[at] = open - 1;
     if open != last {
         return bench;
     }

@@ -1,5 +1,5 @@
 // The rows, the literals and the depth of a path text without faults, in one pass over its tokens (document 02, W-202): the machine of
-// crates/text/specs/Composing.antt with its rows, frames and literals in slices. Memory is bounded: the pass stops once more rows are
+// crates/text/specs/Composing.antt with its rows and literals in slices and its frames in arrays. Memory is bounded: the pass stops once more rows are
 // committed than a path may have.
 #![tactic(auto)]
 
@@ -64,10 +64,17 @@ pub struct Composed {
     pub depth: usize,
 }
 
-// The frames of a pass: 260 of them, and the brackets that they count.
+// 260 frames of four numbers, and two for the brackets that each counts.
 const OPS: usize = 1040;
 
 const OPENS: usize = 520;
+
+// The stack of frames, and the brackets that they count (desk.rt).
+#[derive(Drop)]
+pub struct Stack {
+    pub ops: [u32; OPS],
+    pub opens: [usize; OPENS],
+}
 
 // Composes a text whose names are in the list and whose numbers have few digits. The slices have room for what one token may add where a path
 // is full already.
@@ -76,9 +83,11 @@ pub fn compose(text: &[u8], names: &Names, rows: &mut [u32], values: &mut [f64])
         × (length values.old ≡ value_room) }
     ensures { Composes text.now names.now.list.now rows.new values.new result }
 {
-    let mut ops = [0u32; OPS];
-    let mut opens = [0usize; OPENS];
-    let passed = pass_over(text, names, rows, &mut ops, &mut opens, values);
+    let mut frames = Stack {
+        ops: [0; OPS],
+        opens: [0; OPENS],
+    };
+    let passed = pass_over(text, names, rows, &mut frames, values);
     if passed.full {
         return Composed {
             rows: 257,
@@ -87,7 +96,7 @@ pub fn compose(text: &[u8], names: &Names, rows: &mut [u32], values: &mut [f64])
         };
     }
     let state = passed.state;
-    let settled = settle_frames(state.bench, rows, &ops, &opens, 1);
+    let settled = settle_frames(state.bench, rows, &frames, 1);
     Composed {
         rows: settled.hand.rows,
         literals: state.literals,

@@ -11,7 +11,7 @@ ghost use Rattle.compose.specs.Passes.{Passes, nothing_read};
 use crate::ops::CHILD;
 use crate::read::read_token;
 use crate::words::{number_value, word_number};
-use crate::{Bench, Hand, OPENS, OPS, Passed, State};
+use crate::{Bench, Hand, Passed, Stack, State};
 use names::Names;
 use text::Sort;
 use tokens::{Next, is_due, next_token};
@@ -52,22 +52,21 @@ fn read_next(
     next: Next,
     state: State,
     rows: &mut [u32],
-    ops: &mut [u32; OPS],
-    opens: &mut [usize; OPENS],
+    frames: &mut Stack,
     values: &mut [f64],
 ) -> State
     requires { Spelled text.now names.now.list.now next.kind next.begin next.end
         × (next.kind < 33) × (state.mode < 14) × Roomy 514 state.bench rows.old × (state.literals < value_room)
-        × (length values.old ≡ value_room) × Countable state.bench.height opens.old }
+        × (length values.old ≡ value_room) × Countable state.bench.height frames.old.opens }
     ensures { (result.mode < 14) × ((i : ℕ) → place (source text.now names.now.list.now) i ≡ next.begin
-        → Read state rows.old ops.old opens.old values.old
+        → Read state rows.old frames.old.ops frames.old.opens values.old
         (λ w. compose_token (source text.now names.now.list.now) w i (class_of next.kind)) result
-        rows.new ops.new opens.new values.new 4) }
+        rows.new frames.new.ops frames.new.opens values.new 4) }
 {
     let kind = next.kind;
     let number = word_number(text, names, kind, next.begin, next.end);
     let value = number_value(text, names, kind, next.begin, next.end);
-    read_token(kind, number, value, state, rows, ops, opens, values)
+    read_token(kind, number, value, state, rows, frames, values)
 }
 
 // All tokens, up to the first behind which too many rows are committed.
@@ -75,19 +74,18 @@ pub fn pass_over(
     text: &[u8],
     names: &Names,
     rows: &mut [u32],
-    ops: &mut [u32; OPS],
-    opens: &mut [usize; OPENS],
+    frames: &mut Stack,
     values: &mut [f64],
 ) -> Passed
     requires { Plain text.now names.now.list.now × (length rows.old ≡ row_room)
-        × (ops.old ≡ replicate op_room 0) × (opens.old ≡ replicate open_room 0) × (length values.old ≡ value_room) }
-    ensures { Passes text.now names.now.list.now result rows.new ops.new opens.new values.new }
+        × (frames.old.ops ≡ replicate op_room 0) × (frames.old.opens ≡ replicate open_room 0) × (length values.old ≡ value_room) }
+    ensures { Passes text.now names.now.list.now result rows.new frames.new.ops frames.new.opens values.new }
 {
     let mut state = start();
     let mut next = next_token(text, 0, false);
     // Until the tokens end: it counts no index.
     while next.kind < 33 {
-        state = read_next(text, names, next, state, rows, ops, opens, values);
+        state = read_next(text, names, next, state, rows, frames, values);
         if is_full(state) {
             return Passed { full: true, state };
         }

@@ -12,7 +12,7 @@ use crate::kinds::{
 };
 use crate::mode::next_mode;
 use crate::steps::{number_token, slash_token, step_token};
-use crate::{OPENS, OPS, State};
+use crate::{Stack, State};
 
 // Does a token of this class change the desk alone?
 #[tactic(auto, unfolding(crate::specs::Deals::of_desk))]
@@ -32,19 +32,18 @@ pub fn read_token(
     value: f64,
     state: State,
     rows: &mut [u32],
-    ops: &mut [u32; OPS],
-    opens: &mut [usize; OPENS],
+    frames: &mut Stack,
     values: &mut [f64],
 ) -> State
     requires { (kind < 33) × (state.mode < 14) × Roomy 514 state.bench rows.old × (state.literals < value_room)
-        × (length values.old ≡ value_room) × Countable state.bench.height opens.old }
+        × (length values.old ≡ value_room) × Countable state.bench.height frames.old.opens }
     ensures { (result.mode < 14) × ((s : Source) (i : ℕ) → number ≡ word_number s i kind → (kind ≡ 15 → value ≡ value_at s.text (place s i))
-        → Read state rows.old ops.old opens.old values.old (λ w. compose_token s w i (class_of kind)) result
-        rows.new ops.new opens.new values.new 4) }
+        → Read state rows.old frames.old.ops frames.old.opens values.old (λ w. compose_token s w i (class_of kind)) result
+        rows.new frames.new.ops frames.new.opens values.new 4) }
 {
     let mode = next_mode(kind, state.mode);
     if is_desk(kind) {
-        let bench = desk_token(kind, number, state.mode, state.bench, rows, ops, opens);
+        let bench = desk_token(kind, number, state.mode, state.bench, rows, frames);
         return State {
             mode,
             bench,
@@ -55,7 +54,7 @@ pub fn read_token(
         return number_token(state, mode, value, rows, values);
     }
     if SLASH <= kind {
-        return slash_token(kind, mode, state, rows, ops, opens);
+        return slash_token(kind, mode, state, rows, frames);
     }
-    step_token(kind, number, mode, state, rows, ops, opens)
+    step_token(kind, number, mode, state, rows, frames)
 }

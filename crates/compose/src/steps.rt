@@ -15,19 +15,19 @@ use crate::ops::{
     ABSOLUTE, CHILD, DESCENDANT_OR_SELF, ITSELF, LITERAL_ROW, PARENT, RELATIVE, STEP,
 };
 use crate::pen::write_row;
-use crate::{Bench, OPENS, OPS, State};
+use crate::{Bench, Stack, State};
 use literals::index_of;
 use text::Sort;
 
 // A path begins with this op where an operand is due; behind a step it goes on.
-fn path_from(state: State, ops: &mut [u32; OPS], opens: &mut [usize; OPENS], op: u32) -> State
+fn path_from(state: State, frames: &mut Stack, op: u32) -> State
     requires { (state.mode < 14) × (state.bench.height < 260) }
-    ensures { (result.mode ≡ state.mode) × ((rows : List ℕ) (values : List Float) → Read state rows ops.old opens.old values
-        (path_from op) result rows ops.new opens.new values 2) }
+    ensures { (result.mode ≡ state.mode) × ((rows : List ℕ) (values : List Float) → Read state rows frames.old.ops frames.old.opens values
+        (path_from op) result rows frames.new.ops frames.new.opens values 2) }
 {
     if is_beginning(state.mode) {
-        let paths = paths_in(ops, state.bench.height) + 1;
-        let bench = push_frame(state.bench, ops, opens, op, 0, 0);
+        let paths = paths_in(&frames.ops, state.bench.height) + 1;
+        let bench = push_frame(state.bench, frames, op, 0, 0);
         return State {
             deepest: state.deepest.max(paths),
             bench,
@@ -68,18 +68,12 @@ fn axis_token(state: State, mode: usize, axis: u32) -> State
 }
 
 // A node test: its step is a row to come.
-fn test_token(
-    state: State,
-    mode: usize,
-    test: u32,
-    ops: &mut [u32; OPS],
-    opens: &mut [usize; OPENS],
-) -> State
+fn test_token(state: State, mode: usize, test: u32, frames: &mut Stack) -> State
     requires { state.bench.height < 260 }
-    ensures { (result.mode ≡ mode) × ((rows : List ℕ) (values : List Float) → Read state rows ops.old opens.old values
-        (test_read (mode_of mode) test) result rows ops.new opens.new values 2) }
+    ensures { (result.mode ≡ mode) × ((rows : List ℕ) (values : List Float) → Read state rows frames.old.ops frames.old.opens values
+        (test_read (mode_of mode) test) result rows frames.new.ops frames.new.opens values 2) }
 {
-    let bench = push_frame(state.bench, ops, opens, STEP, state.axis, test);
+    let bench = push_frame(state.bench, frames, STEP, state.axis, test);
     State {
         mode,
         axis: CHILD,
@@ -89,15 +83,15 @@ fn test_token(
 }
 
 // `/` and `//` behind a step.
-fn step_ended(state: State, rows: &mut [u32], ops: &[u32; OPS], opens: &[usize; OPENS]) -> State
+fn step_ended(state: State, rows: &mut [u32], frames: &Stack) -> State
     requires { (state.mode < 14) × Roomy 518 state.bench rows.old }
-    ensures { (values : List Float) → Read state rows.old ops.now opens.now values step_ended result
-        rows.new ops.now opens.now values 0 }
+    ensures { (values : List Float) → Read state rows.old frames.now.ops frames.now.opens values step_ended result
+        rows.new frames.now.ops frames.now.opens values 0 }
 {
     if is_beginning(state.mode) {
         return state;
     }
-    let bench = settle_frames(state.bench, rows, ops, opens, 10);
+    let bench = settle_frames(state.bench, rows, frames, 10);
     State { bench, ..state }
 }
 
@@ -108,21 +102,20 @@ pub fn step_token(
     mode: usize,
     state: State,
     rows: &mut [u32],
-    ops: &mut [u32; OPS],
-    opens: &mut [usize; OPENS],
+    frames: &mut Stack,
 ) -> State
     requires { (state.mode < 14) × (mode_of mode ≡ mode_after (mode_of state.mode) (class_of kind)) × (of_step kind ≡ true)
         × Roomy 514 state.bench rows.old }
     ensures { (result.mode ≡ mode) × ((values : List Float) (s : Source) (i : ℕ) → number ≡ word_number s i kind
-        → Read state rows.old ops.old opens.old values (λ w. compose_token s w i (class_of kind)) result
-        rows.new ops.new opens.new values 4) }
+        → Read state rows.old frames.old.ops frames.old.opens values (λ w. compose_token s w i (class_of kind)) result
+        rows.new frames.new.ops frames.new.opens values 4) }
 {
-    let begun = path_from(state, ops, opens, RELATIVE);
+    let begun = path_from(state, frames, RELATIVE);
     match kind {
         DOT => point_token(begun, mode, ITSELF, rows),
         DOTS => point_token(begun, mode, PARENT, rows),
         AT | AXIS_NAME => axis_token(begun, mode, number),
-        _ => test_token(begun, mode, number, ops, opens),
+        _ => test_token(begun, mode, number, frames),
     }
 }
 
@@ -132,17 +125,16 @@ pub fn slash_token(
     mode: usize,
     state: State,
     rows: &mut [u32],
-    ops: &mut [u32; OPS],
-    opens: &mut [usize; OPENS],
+    frames: &mut Stack,
 ) -> State
     requires { (state.mode < 14) × (mode_of mode ≡ mode_after (mode_of state.mode) (class_of kind)) × (17 ≤ kind) × (kind ≤ 18)
         × Roomy 514 state.bench rows.old }
     ensures { (result.mode ≡ mode) × ((values : List Float) (s : Source) (i : ℕ)
-        → Read state rows.old ops.old opens.old values (λ w. compose_token s w i (class_of kind)) result
-        rows.new ops.new opens.new values 4) }
+        → Read state rows.old frames.old.ops frames.old.opens values (λ w. compose_token s w i (class_of kind)) result
+        rows.new frames.new.ops frames.new.opens values 4) }
 {
-    let begun = path_from(state, ops, opens, ABSOLUTE);
-    let ended = step_ended(begun, rows, ops, opens);
+    let begun = path_from(state, frames, ABSOLUTE);
+    let ended = step_ended(begun, rows, frames);
     if kind == SLASHES {
         return point_token(ended, mode, DESCENDANT_OR_SELF, rows);
     }

@@ -18,5 +18,5 @@ returns-then-is_ending c =
 pub returns : goal.returns
 returns c =
     let g = c.args in
-    worked_as _ 4 (worked_kept g.bench g.rows.now g.ops.now g.opens.now)
+    worked_as _ 4 (worked_kept g.bench g.rows.now g.frames.now.ops g.frames.now.opens)
     (does_not_close g.mode _ (sym c.is_ending.ensures ∙ c.if-is_ending.false)) (omega arith)

@@ -30,7 +30,7 @@ pub returns-in-0 : goal.returns-in-0
 returns-in-0 c =
     let g = c.args in
     dealt g.kind g.number g.mode
-    (opened_desk g.bench _ g.rows.now g.ops.now g.opens.now _ c.open_token.ensures) (omega arith)
+    (opened_desk g.bench _ g.rows.now g.frames.now.ops g.frames.now.opens _ c.open_token.ensures) (omega arith)
     (as_opening g.kind g.number g.mode c.in-0.is)
 
 pub returns-in-1 : goal.returns-in-1
@@ -61,6 +61,6 @@ returns-in-12 c =
 pub returns-in_default : goal.returns-in_default
 returns-in_default c =
     let g = c.args in
-    dealt g.kind g.number g.mode (worked_kept g.bench g.rows.now g.ops.now g.opens.now) (omega arith)
+    dealt g.kind g.number g.mode (worked_kept g.bench g.rows.now g.frames.now.ops g.frames.now.opens) (omega arith)
     (as_moved g.kind g.number g.mode
     (moved_kind g.kind c.requires.2 c.if-kind-ge-PLUS.false (λ e. omega arith) (λ e. omega arith) (λ e. omega arith) (λ e. omega arith) (λ e. omega arith)))

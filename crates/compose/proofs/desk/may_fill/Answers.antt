@@ -12,9 +12,9 @@ returns-then-height-eq0 c = fills_none _ _ _ _ c.if-height-eq0.true
 pub returns-then-k-strength : goal.returns-then-k-strength
 returns-then-k-strength c =
     let g = c.args in
-    sym (sym (fills_top g.k g.ops.now g.opens.now g.height (omega arith)) ∙ rw (← c.strength.ensures, le-leb _ _ c.if-k-strength.true))
+    sym (sym (fills_top g.k g.frames.now.ops g.frames.now.opens g.height (omega arith)) ∙ rw (← c.strength.ensures, le-leb _ _ c.if-k-strength.true))
 
 pub returns-else-k-strength : goal.returns-else-k-strength
 returns-else-k-strength c =
     let g = c.args in
-    sym (sym (fills_top g.k g.ops.now g.opens.now g.height (omega arith)) ∙ rw (← c.strength.ensures, lt-leb _ _ c.if-k-strength.false))
+    sym (sym (fills_top g.k g.frames.now.ops g.frames.now.opens g.height (omega arith)) ∙ rw (← c.strength.ensures, lt-leb _ _ c.if-k-strength.false))

@@ -7,5 +7,5 @@ use Rattle.compose.proofs.desk.push_frame.Goals as goal
 pub returns : goal.returns
 returns c =
     let g = c.args in
-    λ rows. pushed g.bench rows g.ops.now g.opens.now _ _ g.op g.c g.d (omega arith) (omega arith)
+    λ rows. pushed g.bench rows g.frames.now.ops g.frames.now.opens _ _ g.op g.c g.d (omega arith) (omega arith)
     c.store_frame.ensures c.store_open.ensures

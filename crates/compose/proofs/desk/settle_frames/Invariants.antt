@@ -5,7 +5,7 @@ use Rattle.compose.proofs.Frames.{Settling}
 use Rattle.compose.proofs.desk.settle_frames.Given as goal
 
 abbrev pub invariant-loop-rows : goal.invariant-loop-rows
-invariant-loop-rows l = Settling l.k l.ops l.opens l.initial.rows l.initial.left l.rows l.left
+invariant-loop-rows l = Settling l.k l.frames.ops l.frames.opens l.initial.rows l.initial.left l.rows l.left
 
 abbrev pub decreases-loop-rows : goal.decreases-loop-rows
 decreases-loop-rows l = l.left.height

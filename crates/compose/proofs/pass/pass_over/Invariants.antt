@@ -8,7 +8,7 @@ use Rattle.compose.proofs.pass.pass_over.Given as goal
 
 abbrev pub invariant-loop-next : goal.invariant-loop-next
 invariant-loop-next l =
-    Passing l.text l.names.list.now l.rows l.ops l.opens l.values l.state l.next
+    Passing l.text l.names.list.now l.rows l.frames.ops l.frames.opens l.values l.state l.next
 
 abbrev pub decreases-loop-next : goal.decreases-loop-next
 decreases-loop-next l =

@@ -24,7 +24,7 @@ desk_token-bench-requires c = (
 pub returns-then-is_desk : goal.returns-then-is_desk
 returns-then-is_desk c =
     let g = c.args in
-    (c.next_mode-mode.ensures.0, λ s i n v. dealt_read g.state g.rows.now g.ops.now g.opens.now g.values.now s i g.kind _ c.next_mode-mode.ensures.1 _ n c.desk_token-bench.ensures)
+    (c.next_mode-mode.ensures.0, λ s i n v. dealt_read g.state g.rows.now g.frames.now.ops g.frames.now.opens g.values.now s i g.kind _ c.next_mode-mode.ensures.1 _ n c.desk_token-bench.ensures)
 
 pub returns-then-kind-eq-NUMBER : goal.returns-then-kind-eq-NUMBER
 returns-then-kind-eq-NUMBER c =
@@ -33,8 +33,8 @@ returns-then-kind-eq-NUMBER c =
     let known = c.next_mode-mode.ensures in (
       omega (arith, told.0, known.0),
       λ s i n v.
-          read_as _ 4 (told.1 g.ops.now g.opens.now)
-          (as_number g.state g.rows.now g.ops.now g.opens.now g.values.now s i g.kind
+          read_as _ 4 (told.1 g.frames.now.ops g.frames.now.opens)
+          (as_number g.state g.rows.now g.frames.now.ops g.frames.now.opens g.values.now s i g.kind
           c.next_mode-mode.result known.1 g.value
           (v c.if-kind-eq-NUMBER.true)
           c.if-kind-eq-NUMBER.true) (omega arith),

@@ -9,10 +9,10 @@ returns-then-is_beginning c =
     let g = c.args in
     rw c.max.ensures (
       refl,
-      λ rows values. path_begins g.state rows g.ops.now g.opens.now values g.op _ _
+      λ rows values. path_begins g.state rows g.frames.now.ops g.frames.now.opens values g.op _ _
           (sym c.is_beginning.ensures
           ∙ c.if-is_beginning.true)
-          (c.paths_in-paths.ensures.0 g.opens.now)
+          (c.paths_in-paths.ensures.0 g.frames.now.opens)
           (c.push_frame-bench.ensures rows),
     )
 
@@ -20,6 +20,6 @@ pub returns : goal.returns
 returns c =
     let g = c.args in (
       refl,
-      λ rows values. path_goes_on g.state rows g.ops.now g.opens.now values g.op
+      λ rows values. path_goes_on g.state rows g.frames.now.ops g.frames.now.opens values g.op
           (sym c.is_beginning.ensures ∙ c.if-is_beginning.false),
     )

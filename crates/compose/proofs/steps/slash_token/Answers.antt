@@ -26,7 +26,7 @@ returns-then-kind-eq-SLASHES c =
       λ values s i.
           read_as _ 4 (read_then
           (read_then (c.path_from-begun.ensures.1 g.rows.now values) (c.step_ended-ended.ensures values)) (c.point_token.ensures.1 _ _ values))
-          (as_slashes g.state g.rows.now g.ops.now g.opens.now values s i g.kind g.mode
+          (as_slashes g.state g.rows.now g.frames.now.ops g.frames.now.opens values s i g.kind g.mode
           c.requires.1 c.if-kind-eq-SLASHES.true) (omega arith),
     )
 
@@ -37,6 +37,6 @@ returns c =
       λ values s i.
           read_as _ 4 (read_then
           (read_then (c.path_from-begun.ensures.1 g.rows.now values) (c.step_ended-ended.ensures values)) (mode_set c.step_ended-ended.result _ _ _ values g.mode))
-          (as_slash g.state g.rows.now g.ops.now g.opens.now values s i g.kind g.mode
+          (as_slash g.state g.rows.now g.frames.now.ops g.frames.now.opens values s i g.kind g.mode
           c.requires.1 (omega (arith, c.requires.2, c.requires.3, c.if-kind-eq-SLASHES.false))) (omega arith),
     )

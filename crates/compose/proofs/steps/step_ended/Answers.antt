@@ -7,12 +7,12 @@ use Rattle.compose.proofs.steps.step_ended.Goals as goal
 pub returns-then-is_beginning : goal.returns-then-is_beginning
 returns-then-is_beginning c =
     let g = c.args in
-    λ values. not_ended g.state g.rows.now g.ops.now g.opens.now values
+    λ values. not_ended g.state g.rows.now g.frames.now.ops g.frames.now.opens values
     (sym c.is_beginning.ensures ∙ c.if-is_beginning.true)
 
 pub returns : goal.returns
 returns c =
     let g = c.args in
-    λ values. ended g.state g.rows.now g.ops.now g.opens.now values _
+    λ values. ended g.state g.rows.now g.frames.now.ops g.frames.now.opens values _
     (sym c.is_beginning.ensures
     ∙ c.if-is_beginning.false) c.settle_frames-bench.ensures

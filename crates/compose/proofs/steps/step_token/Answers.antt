@@ -31,7 +31,7 @@ returns-in-4 c =
           read_as _ 4 (read_then
           (c.path_from-begun.ensures.1 g.rows.now values)
           (c.point_token.ensures.1 _ _ values))
-          (as_dot g.state g.rows.now g.ops.now g.opens.now values s i g.kind g.mode
+          (as_dot g.state g.rows.now g.frames.now.ops g.frames.now.opens values s i g.kind g.mode
           c.requires.1 c.in-4.is) (omega arith),
     )
 
@@ -43,7 +43,7 @@ returns-in-5 c =
           read_as _ 4 (read_then
           (c.path_from-begun.ensures.1 g.rows.now values)
           (c.point_token-in-5.ensures.1 _ _ values))
-          (as_dots g.state g.rows.now g.ops.now g.opens.now values s i g.kind g.mode
+          (as_dots g.state g.rows.now g.frames.now.ops g.frames.now.opens values s i g.kind g.mode
           c.requires.1 c.in-5.is) (omega arith),
     )
 
@@ -54,7 +54,7 @@ returns-in-6 c =
       λ values s i n.
           read_as _ 4 (read_then (c.path_from-begun.ensures.1 g.rows.now values)
           (c.axis_token.ensures.1 _ _ _ values))
-          (as_axis g.state g.rows.now g.ops.now g.opens.now values s i g.kind g.mode
+          (as_axis g.state g.rows.now g.frames.now.ops g.frames.now.opens values s i g.kind g.mode
           c.requires.1 g.number n
           c.in-6.is) (omega arith),
     )
@@ -68,6 +68,6 @@ returns-in_default c =
           read_as _ 4 (read_then
           (c.path_from-begun.ensures.1
           g.rows.now values) (c.test_token.ensures.1 _ values))
-          (as_test g.state g.rows.now g.ops.now g.opens.now values s i g.kind g.mode
+          (as_test g.state g.rows.now g.frames.now.ops g.frames.now.opens values s i g.kind g.mode
           c.requires.1 g.number n (test_kind g.kind c.requires.2 (λ e. omega arith) (λ e. omega arith) (λ e. other (inl e)) (λ e. other (inr e)))) (omega arith),
     )

@@ -8,6 +8,6 @@ pub returns : goal.returns
 returns c =
     let g = c.args in (
       refl,
-      λ rows values. tested g.state rows g.ops.now g.opens.now values g.mode g.test _
+      λ rows values. tested g.state rows g.frames.now.ops g.frames.now.opens values g.mode g.test _
           (c.push_frame-bench.ensures rows),
     )
