@@ -148,7 +148,8 @@ pub fn in_second(edition: usize, test: Test) -> Test
     }
 }
 
-// Does node y pass the test, where `*` and names match this kind?
+// Does node y pass the test, where `*` and names match this kind? A name's two tests are joined by &, which reads both sides, so that no
+// branch hangs on a row's kind.
 #[tactic(auto, using(table::proofs::Numbers::same_kind), unfolding(meaning::specs::Axis::passes, meaning::specs::Table::is_text))]
 pub fn passes_test(table: &[u32], kind: usize, test: Test, y: usize) -> bool
     requires { y < rows table.now }
@@ -160,6 +161,6 @@ pub fn passes_test(table: &[u32], kind: usize, test: Test, y: usize) -> bool
         Test::Text => node_kind(table, y) == Kind::Text,
         Test::Comment => node_kind(table, y) == Kind::Comment,
         Test::Instruction => node_kind(table, y) == Kind::Instruction,
-        Test::Named(name) => kind_at(table, y) == kind && name_at(table, y) == name,
+        Test::Named(name) => (kind_at(table, y) == kind) & (name_at(table, y) == name),
     }
 }

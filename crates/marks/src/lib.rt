@@ -58,7 +58,21 @@ pub fn copy_marks(table: &[u32], from: &[bool], to: &mut [bool])
     to[..n].copy_from_slice(&from[..n]);
 }
 
-// Of the marked rows those stay marked that pass, in an edition, the test of a step on this axis.
+// Of the marked rows those stay marked that pass the test, where `*` and names match the axis's kind.
+fn keep_passing(table: &[u32], axis: Axis, test: Test, marks: &mut [bool])
+    requires { (rows table.now ≤ most_rows) × (rows table.now ≤ length marks.old) }
+    ensures { Sifted 2 table.now axis test marks.old marks.new }
+{
+    let kind = principal(axis);
+    each(
+        marks,
+        row_count(table),
+        |y, marked| marked & passes_test(table, kind, test, y),
+    );
+}
+
+// Of the marked rows those stay marked that pass, in an edition, the test of a step on this axis. Each test is named where its rows are
+// asked, so that it has a loop of its own, in which no row looks up which test it is.
 pub fn sift(edition: usize, table: &[u32], axis: Axis, test: Test, marks: &mut [bool])
     requires { (rows table.now ≤ most_rows) × (rows table.now ≤ length marks.old) }
     ensures { Sifted edition table.now axis test marks.old marks.new }
@@ -66,14 +80,11 @@ pub fn sift(edition: usize, table: &[u32], axis: Axis, test: Test, marks: &mut [
     match in_second(edition, test) {
         // Every row passes it.
         Test::AnyNode => {}
-        read => {
-            let kind = principal(axis);
-            each(
-                marks,
-                row_count(table),
-                |y, marked| marked & passes_test(table, kind, read, y),
-            );
-        }
+        Test::Star => keep_passing(table, axis, Test::Star, marks),
+        Test::Text => keep_passing(table, axis, Test::Text, marks),
+        Test::Comment => keep_passing(table, axis, Test::Comment, marks),
+        Test::Instruction => keep_passing(table, axis, Test::Instruction, marks),
+        Test::Named(name) => keep_passing(table, axis, Test::Named(name), marks),
     }
 }
 
