@@ -1,5 +1,6 @@
 // The candidates of a step from one node: the rows of an axis that pass a test, in the order of the axis. An axis whose nodes can be told
 // from the table without a scan has a small function of its own, which promises that axis's candidates; the others look at every row.
+// A row of the axis is written where the next candidate goes and counted if it passes, so that no branch hangs on the test.
 #![tactic(auto)]
 
 ghost use Rattle.std.specs.Prelude.{◌≡◌, ◌+◌, ◌<◌, ◌≤◌, min, length, take, ◌&&◌};
@@ -33,14 +34,6 @@ pub fn list_candidates(
     }
 }
 
-// Is y on the axis of x, and does it pass the test, where `*` and names match this kind?
-fn is_candidate(table: &[u32], axis: Axis, kind: usize, test: Test, x: usize, y: usize) -> bool
-    requires { (x < 4294967296) × (y < rows table.now) × (rows table.now ≤ most_rows) }
-    ensures { result ≡ (on table.now axis x y && passes 2 table.now kind test y) }
-{
-    holds(table, axis, x, y) && passes_test(table, kind, test, y)
-}
-
 // Those of any axis: each row is asked, in the order of the axis.
 fn list_by_scan(table: &[u32], axis: Axis, test: Test, x: usize, list: &mut [u16]) -> usize
     requires { (rows table.now ≤ most_rows) × (x < 4294967296) × (rows table.now ≤ length list.old) }
@@ -52,9 +45,9 @@ fn list_by_scan(table: &[u32], axis: Axis, test: Test, x: usize, list: &mut [u16
     let mut m = 0;
     for i in 0..n {
         let y = nth(reverse, n, i);
-        if is_candidate(table, axis, kind, test, x, y) {
+        if holds(table, axis, x, y) {
             list[m] = y as u16;
-            m += 1;
+            m += usize::from(passes_test(table, kind, test, y));
         }
     }
     m
@@ -97,7 +90,7 @@ fn is_in_range(table: &[u32], x: usize, test: Test, y: usize) -> bool
     requires { y < rows table.now }
     ensures { result ≡ (own_or_plain table.now x y && passes 2 table.now 1 test y) }
 {
-    (x == y || !is_attribute(table, y)) && passes_test(table, 1, test, y)
+    ((x == y) | !is_attribute(table, y)) & passes_test(table, 1, test, y)
 }
 
 // Writes the rows from one to before another that pass the test, attributes other than x left out, to the front of the list.
@@ -114,10 +107,8 @@ fn list_range(
 {
     let mut m = 0;
     for y in from..to {
-        if is_in_range(table, x, test, y) {
-            list[m] = y as u16;
-            m += 1;
-        }
+        list[m] = y as u16;
+        m += usize::from(is_in_range(table, x, test, y));
     }
     m
 }

@@ -4,9 +4,10 @@ use native.Mathlib.Omega.{arith}
 use lib.ListN.{length, length-set}
 use Rattle.meaning.specs.Axis.{ordered, axis_nodes, candidates}
 use Rattle.meaning.proofs.Lists.{length_ordered, keep_keep}
-use Rattle.meaning.proofs.Filters.{chosen_start, chosen_skip, chosen_more, chosen_done}
+use Rattle.meaning.proofs.Filters.{chosen_start, chosen_skip, chosen_done}
+use Rattle.candidates.proofs.Written.{counted_once, chosen_next}
 use Rattle.candidates.proofs.list_by_scan.Goals as goal
-use Rattle.candidates.proofs.list_by_scan.Goals.{then-is_candidate, else-is_candidate}
+use Rattle.candidates.proofs.list_by_scan.Goals.{then-holds, else-holds}
 
 pub loop-i-init : goal.loop-i-init
 loop-i-init c = (omega arith, c.row_count-n.ensures, refl, chosen_start _ _ _)
@@ -17,19 +18,18 @@ loop-i-preserved c =
     let r = c.is_reverse-reverse.result in
     let long : length (ordered r n) ≡ n = length_ordered r n in
     let at_y = c.nth-y.ensures.0 in
-    let decided = rw (c.principal-kind.ensures, at_y) at c.is_candidate.ensures in
-    elim c.if-is_candidate.branch [
-      | then-is_candidate w ↦ (
-        omega arith,
+    elim c.if-holds.branch [
+      | then-holds w ↦ (
+        omega (arith, counted_once w.passes_test.result, w.from-m.ensures, w.m-is),
         c.loop-i.invariant.1,
         ap length w.list-is ∙ simp length-set c.loop-i.invariant.2,
-        rw (w.list-is, w.m-is) (chosen_more _ _ _ _ _ _ c.loop-i.invariant.3 (omega arith) (omega arith) at_y (rw decided at w.if-is_candidate.true)),
+        rw (w.list-is, w.m-is, w.from-m.ensures) (chosen_next _ _ _ _ _ _ _ c.loop-i.invariant.3 (omega arith) (omega arith) at_y (rw (← at_y, ← c.holds.ensures, w.if-holds.true, ← c.principal-kind.ensures) (sym w.passes_test.ensures))),
       )
-      | else-is_candidate w ↦ (
-        omega arith,
+      | else-holds w ↦ (
+        omega (arith, w.m-is),
         c.loop-i.invariant.1,
         ap length w.list-is ∙ c.loop-i.invariant.2,
-        rw (w.list-is, w.m-is) (chosen_skip _ _ _ _ _ c.loop-i.invariant.3 (omega arith) (rw decided at w.if-is_candidate.false)),
+        rw (w.list-is, w.m-is) (chosen_skip _ _ _ _ _ c.loop-i.invariant.3 (omega arith) (rw (← at_y, ← c.holds.ensures, w.if-holds.false) refl)),
       )
     ]
 

@@ -1,7 +1,7 @@
 -- `candidates::list_by_scan` meets its contract. The loop's invariant: the first m of the list are the candidates among the first
 -- i rows of the axis's order.
 -- Assumes nothing.
-use Prim.Native.Nat.{◌-◌, ◌≤◌}
+use Prim.Native.Nat.{◌≤◌}
 use mathlib.Core.Path.{◌≡◌}
 use lib.ListN.{length}
 use mathlib.Core.Bool.{◌&&◌}
