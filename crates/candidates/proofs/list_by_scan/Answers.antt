@@ -2,7 +2,7 @@
 use mathlib.Core.Path.{◌≡◌, refl, sym, ap, ◌∙◌}
 use native.Mathlib.Omega.{arith}
 use lib.ListN.{length, length-set}
-use Rattle.meaning.specs.Axis.{ordered, axis_nodes, candidates}
+use Rattle.meaning.specs.Axis.{on, ordered, axis_nodes, candidates}
 use Rattle.meaning.proofs.Lists.{length_ordered, keep_keep}
 use Rattle.meaning.proofs.Filters.{chosen_start, chosen_skip, chosen_done}
 use Rattle.candidates.proofs.Written.{counted_once, chosen_next}
@@ -18,18 +18,19 @@ loop-i-preserved c =
     let r = c.is_reverse-reverse.result in
     let long : length (ordered r n) ≡ n = length_ordered r n in
     let at_y = c.nth-y.ensures.0 in
+    let asked : on c.args.table.now c.args.axis c.args.x c.nth-y.result ≡ c.holds.result = sym c.holds.ensures in
     elim c.if-holds.branch [
       | then-holds w ↦ (
         omega (arith, counted_once w.passes_test.result, w.from-m.ensures, w.m-is),
         c.loop-i.invariant.1,
         ap length w.list-is ∙ simp length-set c.loop-i.invariant.2,
-        rw (w.list-is, w.m-is, w.from-m.ensures) (chosen_next _ _ _ _ _ _ _ c.loop-i.invariant.3 (omega arith) (omega arith) at_y (rw (← at_y, ← c.holds.ensures, w.if-holds.true, ← c.principal-kind.ensures) (sym w.passes_test.ensures))),
+        rw (w.list-is, w.m-is, w.from-m.ensures) (chosen_next _ _ _ _ _ _ _ c.loop-i.invariant.3 (omega arith) (omega arith) at_y (rw (← at_y, asked, w.if-holds.true, ← c.principal-kind.ensures) (sym w.passes_test.ensures))),
       )
       | else-holds w ↦ (
         omega (arith, w.m-is),
         c.loop-i.invariant.1,
         ap length w.list-is ∙ c.loop-i.invariant.2,
-        rw (w.list-is, w.m-is) (chosen_skip _ _ _ _ _ c.loop-i.invariant.3 (omega arith) (rw (← at_y, ← c.holds.ensures, w.if-holds.false) refl)),
+        rw (w.list-is, w.m-is) (chosen_skip _ _ _ _ _ c.loop-i.invariant.3 (omega arith) (rw (← at_y, asked, w.if-holds.false) refl)),
       )
     ]
 
