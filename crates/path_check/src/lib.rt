@@ -88,7 +88,8 @@ fn is_broken(literals: usize, all: &Linked, lower: &Linked) -> bool
 fn lowest_broken_row(rows: &Rows, literals: usize) -> Option<usize>
     ensures { MatchOption result (lowest (broken_row rows.now.path.now literals) rows.now.count ≡ rows.now.count) (λ r. (r ≡ lowest (broken_row rows.now.path.now literals) rows.now.count) × (r < rows.now.count)) }
 {
-    let all = Linked::by_all(rows);
+    let mut all = Linked::by_none(rows.path);
+    all.add_all(rows);
     let mut lower = Linked::by_none(rows.path);
     for row in 0..rows.count {
         if is_broken(literals, &all, &lower) {

@@ -30,17 +30,6 @@ impl<'a> Linked<'a> {
         }
     }
 
-    // Those of all rows.
-    pub fn by_all(rows: &Rows<'a>) -> Self
-        ensures { (result.path.now ≡ rows.now.path.now) × (result.rows ≡ rows.now.count) }
-    {
-        let mut all = Linked::by_none(rows.path);
-        for _ in 0..rows.count {
-            all.add_row();
-        }
-        all
-    }
-
     // Marks the links of one row more.
     pub fn add_row(&mut self)
         requires { self.old.rows ≤ 256 }
@@ -51,6 +40,16 @@ impl<'a> Linked<'a> {
         self.marks[a] = true;
         self.marks[b] = true;
         self.rows += 1;
+    }
+
+    // Marks the links of all rows.
+    pub fn add_all(&mut self, rows: &Rows<'a>)
+        requires { (self.old.rows ≡ 0) × (self.old.path.now ≡ rows.now.path.now) }
+        ensures { (self.new.path.now ≡ rows.now.path.now) × (self.new.rows ≡ rows.now.count) }
+    {
+        for _ in 0..rows.count {
+            self.add_row();
+        }
     }
 
     // Does one of the rows hold this link?
