@@ -1,6 +1,6 @@
 // What a row's fields may hold (document 01, "The path form"): the table of ops, the sorts, and the test of each field.
 ghost use Rattle.std.specs.Prelude.{◌≡◌};
-ghost use Rattle.meaning.specs.Rows.{fields_of, is_number, is_truth, is_path, is_step, is_predicate, is_unknown, takes, may_miss, good_test, good_link, good_field, good_fields};
+ghost use Rattle.meaning.specs.Rows.{fields_of, is_number, is_truth, is_path, is_step, is_predicate, is_unknown, is_link, takes, may_miss, good_test, good_link, good_field, good_fields};
 
 use super::{field_at, op_at};
 use meaning::Field::*;
@@ -152,23 +152,27 @@ fn is_good_test(v: usize) -> bool
     v <= 4 || (17 <= v && v <= 65551)
 }
 
-// Is v allowed in a field of this kind?
-#[tactic(auto, unfolding(meaning::specs::Rows::good_field))]
+// Is it a link to another row?
+#[tactic(auto, unfolding(meaning::specs::Rows::is_link))]
+fn is_link(kind: Field) -> bool
+    ensures { result ≡ is_link kind }
+{
+    !matches!(kind, Unused | LiteralIndex | AxisNumber | TestNumber)
+}
+
+// Is v allowed in a field of this kind? Links first: one compare tells them, and the match jumps through a table.
+#[tactic(auto, unfolding(meaning::specs::Rows::good_field, meaning::specs::Rows::is_link))]
 fn is_good_field(path: &[u32], literals: usize, row: usize, kind: Field, v: usize) -> bool
     ensures { result ≡ good_field path.now literals row kind v }
 {
+    if is_link(kind) {
+        return is_good_link(path, row, kind, v);
+    }
     match kind {
-        Unused => v == 0,
         LiteralIndex => v < literals,
         AxisNumber => v <= LAST_AXIS,
         TestNumber => is_good_test(v),
-        NumberLink
-        | TruthLink
-        | ExpressionLink
-        | PathLink
-        | StepLink
-        | StepOrNone
-        | PredicateOrNone => is_good_link(path, row, kind, v),
+        _ => v == 0,
     }
 }
 

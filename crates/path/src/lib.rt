@@ -13,6 +13,9 @@ use meaning::{Axis, Op, Test};
 // The inverse axis of each axis: 1 and 2, 3 and 4 and so on are inverse to each other; 11 has none, and 0 fills its place.
 const INVERSES: [usize; 12] = [0, 2, 1, 4, 3, 6, 5, 8, 7, 10, 9, 0];
 
+// The last row whose fields all have an index. Beside a path's length, this bound falls away where a row is known to be small.
+const LAST_ROW: usize = (usize::MAX - 4) / 5;
+
 // How many rows the path has.
 pub fn row_count(path: &[u32]) -> usize
     ensures { result ≡ rows_of path.now }
@@ -25,7 +28,7 @@ pub fn field_at(path: &[u32], row: usize, f: usize) -> usize
     requires { f ≤ 4 }
     ensures { (result ≡ field path.now row f) × (result < 4294967296) }
 {
-    if row < path.len() {
+    if row <= LAST_ROW {
         entry(path, 5 * row + f)
     } else {
         0
@@ -99,15 +102,18 @@ pub fn second_link(path: &[u32], row: usize) -> usize
     link_in(path, row, 2, has_second(op_at(path, row)))
 }
 
-// A literal's index, or the number of a step's axis; 0 for any other op.
+// A literal's index, or the number of a step's axis; 0 for any other op. Two compares: a match would jump through a table.
 #[tactic(auto, unfolding(meaning::specs::Tree::index_or_axis, meaning::specs::Rows::is_literal, meaning::specs::Rows::is_step, meaning::specs::Rows::code))]
 pub fn index_or_axis(path: &[u32], row: usize) -> usize
     ensures { (result ≡ index_or_axis path.now row) × (result < 4294967296) }
 {
-    match op_at(path, row) {
-        Op::Literal => field_at(path, row, 1),
-        Op::Step => field_at(path, row, 3),
-        _ => 0,
+    let op = op_at(path, row);
+    if op == Op::Step {
+        field_at(path, row, 3)
+    } else if op == Op::Literal {
+        field_at(path, row, 1)
+    } else {
+        0
     }
 }
 
