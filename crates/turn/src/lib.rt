@@ -39,13 +39,14 @@ fn steps_of(path: &[u32], last: usize) -> Steps
     ensures counting { First result.counting (first_step is_counting (tree path.now last)) last }
     ensures attribute { First result.attribute (first_step is_of_attributes (tree path.now last)) last }
 {
-    let Some(row) = last.checked_sub(1) else {
+    if last == 0 {
         return Steps {
             count: 0,
             counting: None,
             attribute: None,
         };
-    };
+    }
+    let row = last - 1;
     let before = steps_of(path, first_link(path, row));
     let count = before.count + 1;
     let counts = counting(path, second_link(path, row));

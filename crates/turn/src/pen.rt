@@ -56,9 +56,10 @@ impl Pen<'_> {
         requires { Room self.old.out.now (self.old.at + weight (tree path.now from)) }
         ensures { Wrote self.old self.new (written self.old.at (tree path.now from)) (weight (tree path.now from)) }
     {
-        let Some(row) = from.checked_sub(1) else {
+        if from == 0 {
             return;
-        };
+        }
+        let row = from - 1;
         let a = first_link(path, row);
         let b = second_link(path, row);
         self.write(path, a);

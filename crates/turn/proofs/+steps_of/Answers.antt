@@ -16,35 +16,32 @@ first_more (Some x) own n f g k m h low some high e =
     let z : (f ≡ 0) → ⊥ = λ q. omega arith in
     (h.0 ∙ rw (ne_eqb f 0 z) at e, h.1, omega arith)
 
-pub returns-in_default-clause-count : goal.returns-in_default-clause-count
-returns-in_default-clause-count t c = (steps_none _ _ (omega (arith, c.in_default.ensures)), omega arith)
+pub returns-then-last-eq0-clause-count : goal.returns-then-last-eq0-clause-count
+returns-then-last-eq0-clause-count t c = (steps_none _ _ (omega arith), omega arith)
 
-pub returns-in_default-clause-counting : goal.returns-in_default-clause-counting
-returns-in_default-clause-counting t c = sym (first_none _ _ _ (omega (arith, c.in_default.ensures)))
+pub returns-then-last-eq0-clause-counting : goal.returns-then-last-eq0-clause-counting
+returns-then-last-eq0-clause-counting t c = sym (first_none _ _ _ (omega arith))
 
-pub returns-in_default-clause-attribute : goal.returns-in_default-clause-attribute
-returns-in_default-clause-attribute t c = sym (first_none _ _ _ (omega (arith, c.in_default.ensures)))
+pub returns-then-last-eq0-clause-attribute : goal.returns-then-last-eq0-clause-attribute
+returns-then-last-eq0-clause-attribute t c = sym (first_none _ _ _ (omega arith))
 
 pub returns-clause-count : goal.returns-clause-count
 returns-clause-count t c =
-    let before = c.steps_of-before.ensures.count in
-    let here = c.in-Some.ensures in (
-      steps_row _ _ (λ e. omega arith) _ _ (rw here.1 at c.first_link.ensures.0) (rw here.1 at c.second_link.ensures.0) _ before.0,
+    let before = c.steps_of-before.ensures.count in (
+      steps_row _ _ (λ e. omega arith) _ _ c.first_link.ensures.0 c.second_link.ensures.0 _ before.0,
       omega arith,
     )
 
 pub returns-clause-counting : goal.returns-clause-counting
 returns-clause-counting t c =
     let before = c.steps_of-before.ensures in
-    let here = c.in-Some.ensures in
     rw (c.or.ensures, c.then_some.ensures)
     (first_more _ _ _ _ _ _ _ before.counting (omega arith) (omega arith) (omega arith)
-    (first_row _ _ (λ e. omega arith) _ _ (rw here.1 at c.first_link.ensures.0) (rw here.1 at c.second_link.ensures.0) is_counting _ _ _ _ before.count.0 refl c.counting-counts.ensures refl))
+    (first_row _ _ (λ e. omega arith) _ _ c.first_link.ensures.0 c.second_link.ensures.0 is_counting _ _ _ _ before.count.0 refl c.counting-counts.ensures refl))
 
 pub returns-clause-attribute : goal.returns-clause-attribute
 returns-clause-attribute t c =
     let before = c.steps_of-before.ensures in
-    let here = c.in-Some.ensures in
     rw (c.or-2.ensures, c.then_some-2.ensures)
     (first_more _ _ _ _ _ _ _ before.attribute (omega arith) (omega arith) (omega arith)
-    (first_row _ _ (λ e. omega arith) _ _ (rw here.1 at c.first_link.ensures.0) (rw here.1 at c.second_link.ensures.0) is_of_attributes _ _ _ _ before.count.0 refl (rw here.1 at c.is_of_attributes-of_attributes.ensures) refl))
+    (first_row _ _ (λ e. omega arith) _ _ c.first_link.ensures.0 c.second_link.ensures.0 is_of_attributes _ _ _ _ before.count.0 refl c.is_of_attributes-of_attributes.ensures refl))
