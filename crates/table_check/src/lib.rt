@@ -11,7 +11,9 @@ ghost use Rattle.table_check.specs.Names.{unlisted, stopped};
 ghost use Rattle.table_check.specs.Passes.{Passing};
 
 use meaning::{MOST_ROWS, Refusal};
-use table::{Kind, end_at, is_attribute, name_at, node_kind, parent_at, row_count, size_at};
+use table::{
+    Kind, end_at, is_attribute, kind_at, name_at, node_kind, parent_at, row_count, size_at,
+};
 
 // The largest name.
 const MOST_NAME: usize = 65535;
@@ -71,15 +73,18 @@ fn good_name(table: &[u32], i: usize) -> bool
     }
 }
 
-// Are row i's own numbers sound: a kind from 1 to 5, a name as it has it, and a size for elements alone?
-#[tactic(auto, using(table::proofs::Numbers::same_kind, table::proofs::Numbers::unknown_kind), unfolding(meaning::specs::Table::good_size))]
+// Are row i's own numbers sound: a kind from 1 to 5, a name as it has it, and a size for elements alone? Sizes are tested by |, which reads
+// both sides: whether a row is an element hangs on the table, so a branch on it would often be foretold wrong.
+#[tactic(auto, using(table::proofs::Numbers::same_kind), unfolding(meaning::specs::Table::good_size))]
 fn good_numbers(table: &[u32], i: usize) -> bool
     requires { i < rows table.now }
     ensures { result ≡ good_numbers (kind table.now i) (name table.now i) (size table.now i) }
 {
-    let kind = node_kind(table, i);
-    let known = kind != Kind::Root && kind != Kind::Unknown;
-    known && good_name(table, i) && (kind == Kind::Element || size_at(table, i) == 0)
+    let number = kind_at(table, i);
+    let known = 1 <= number && number <= 5;
+    known
+        && good_name(table, i)
+        && ((node_kind(table, i) == Kind::Element) | (size_at(table, i) == 0))
 }
 
 // Is row i a text child of the root?
@@ -91,7 +96,7 @@ fn text_of_root(table: &[u32], i: usize) -> bool
     node_kind(table, i) == Kind::Text && parent_at(table, i) == 0
 }
 
-// Does row i stand straight after its element, or after another attribute of it?
+// Does row i stand straight after its element, or after another attribute of it? By & and | for the same reason.
 #[tactic(auto, using(table::proofs::Numbers::same_kind), unfolding(meaning::specs::Table::among_attributes))]
 fn among_attributes(table: &[u32], i: usize) -> bool
     requires { (0 < i) × (i < rows table.now) }
@@ -99,9 +104,9 @@ fn among_attributes(table: &[u32], i: usize) -> bool
 {
     let kind = node_kind(table, i - 1);
     let parent = parent_at(table, i);
-    let first = kind == Kind::Element && parent == i - 1;
-    let next = kind == Kind::Attribute && parent == parent_at(table, i - 1);
-    first || next
+    let first = (kind == Kind::Element) & (parent == i - 1);
+    let next = (kind == Kind::Attribute) & (parent == parent_at(table, i - 1));
+    first | next
 }
 
 // Is row i an attribute whose name is not below this number?
