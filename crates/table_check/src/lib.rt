@@ -73,8 +73,8 @@ fn good_name(table: &[u32], i: usize) -> bool
     }
 }
 
-// Are row i's own numbers sound: a kind from 1 to 5, a name as it has it, and a size for elements alone? Sizes are tested by |, which reads
-// both sides: whether a row is an element hangs on the table, so a branch on it would often be foretold wrong.
+// Are row i's own numbers sound: a kind from 1 to 5, a name as it has it, and a size for elements alone? Its kind by number, since a table
+// that is not yet checked holds any. Its size by |, which reads both sides, so that no branch hangs on which rows are elements.
 #[tactic(auto, using(table::proofs::Numbers::same_kind), unfolding(meaning::specs::Table::good_size))]
 fn good_numbers(table: &[u32], i: usize) -> bool
     requires { i < rows table.now }
@@ -96,7 +96,7 @@ fn text_of_root(table: &[u32], i: usize) -> bool
     node_kind(table, i) == Kind::Text && parent_at(table, i) == 0
 }
 
-// Does row i stand straight after its element, or after another attribute of it? By & and | for the same reason.
+// Does row i stand straight after its element, or after another attribute of it? By & and |, so that no branch hangs on which.
 #[tactic(auto, using(table::proofs::Numbers::same_kind), unfolding(meaning::specs::Table::among_attributes))]
 fn among_attributes(table: &[u32], i: usize) -> bool
     requires { (0 < i) × (i < rows table.now) }
