@@ -11,8 +11,8 @@ use Rattle.meaning.specs.Lists.{up_to, some}
 use Rattle.meaning.specs.Table.{rows, parent_of, end, is_attribute}
 use Rattle.meaning.specs.Axis.{under, inside, after, on}
 use Rattle.meaning.specs.declared.Axis.TheVariants.{FollowingSibling, Itself, PrecedingSibling}
-use Rattle.meaning.proofs.Bools.{lt_or_ge, eq_or_ne, eqb_sym}
-use Rattle.meaning.proofs.Lists.{some_last, some_same}
+use Rattle.meaning.proofs.Bools.{lt_or_ge, eq_or_ne, eqb_sym, truly, is_true}
+use Rattle.meaning.proofs.Lists.{some_last, some_same, some_from, none_below, has_up_to_from}
 use Rattle.meaning.proofs.Windows.{some_below, some_and, some_at, some_at_or, up_from, window_below, window_above, leb_ltb, after_is}
 use Rattle.meaning.proofs.Marks.{Wrote, WroteDown, wrote_all, down_all, set_if}
 use Rattle.reach.specs.declared.Asked.{Asked}
@@ -81,6 +81,30 @@ smaller_left true y a v e = elim (lt_or_ge a y) [
 ]
 smaller_left false y a v e = sym (or-false (ltb a y))
 
+-- the smaller of two is below what one of them is below
+pub smaller_taken_of : (y a v : ℕ) → v < a → ltb v y ≡ (ltb a y || ltb v y)
+smaller_taken_of y a v l = smaller_taken true y a v (lt-ltb v a l)
+
+pub smaller_left_of : (y a v : ℕ) → a ≤ v → ltb a y ≡ (ltb a y || ltb v y)
+smaller_left_of y a v l = smaller_left true y a v (le-ltb v a l)
+
+-- ---- the last row at which `from` holds
+
+module _ (from : ℕ → Bool) (n : ℕ) where
+  -- is above a number exactly if some such row is
+  pub last_is : (k : ℕ) → k < n → from k ≡ true → ((x : ℕ) → k + 1 ≤ x → x < n → from x ≡ false) → (z : ℕ) → ltb z k ≡ some (λ x. from x && ltb z x) (up_to n)
+  last_is k l at none z = elim (lt_or_ge z k) [
+    | inl m ↦ rw (lt-ltb z k m) (sym (is_true (some (λ x. from x && ltb z x) (up_to n)) (some_from (λ x. from x && ltb z x) (up_to n) k (truly (rw (at, lt-ltb z k m))) (has_up_to_from n k l))))
+    | inr m ↦ rw (le-ltb z k m) (sym (none_below (λ x. from x && ltb z x) n (λ x b. elim (lt_or_ge k x) [
+      | inl o ↦ rw (none x (omega arith) b)
+      | inr o ↦ rw (le-ltb z x (omega arith)) (and-false (from x))
+    ])))
+  ]
+
+  -- and where there is none, no row is
+  pub last_none : ((x : ℕ) → x < n → from x ≡ false) → (z : ℕ) → ltb z 0 ≡ some (λ x. from x && ltb z x) (up_to n)
+  last_none none z = rw (le-ltb z 0 (omega arith)) (sym (none_below (λ x. from x && ltb z x) n (λ x b. rw (none x b))))
+
 -- ---- what rows give, and what is taken of it
 
 -- the rows of a set that are marked
@@ -148,19 +172,6 @@ swap true b c = refl
 swap false true c = refl
 swap false false c = refl
 
--- what is after a row is later
-after_later : (t : List ℕ) (x y : ℕ) → after t x y ≡ (ltb x y && after t x y)
-unfolding after
-after_later t x y = twice (ltb x y) (not (inside t x y))
-  where
-    twice : (a b : Bool) → (a && b) ≡ (a && (a && b))
-    twice true b = refl
-    twice false b = refl
-
-later : (f l a : Bool) → a ≡ (l && a) → (f && a) ≡ (l && (f && a))
-later true l a e = e
-later false l a e = sym (and-false l)
-
 module _ (t : List ℕ) (from : ℕ → Bool) (y : ℕ) (low : y < rows t) where
   -- inside another: some end of a row behind y is not before it
   inside_met : (v : ℕ → Bool) → Gathered (beyond + 1) (λ x z. ltb z (end t x + 1)) from (up_to y) v → y ≤ beyond → v y ≡ met t (inside t) from y
@@ -175,20 +186,6 @@ module _ (t : List ℕ) (from : ℕ → Bool) (y : ℕ) (low : y < rows t) where
   around_met v h b = h (end t y + 1) (omega arith) ∙ sym
       (some_below (λ x. from x && (ltb y x && leb x (end t y))) (λ x. ltb y x && (from x && ltb x (end t y + 1))) (rows t) (λ x l. rw (leb_ltb x (end t y)) (swap (from x) (ltb y x) (ltb x (end t y + 1))))
       ∙ window_above (λ x. from x && ltb x (end t y + 1)) (rows t) y)
-
-  -- after another and not inside it: the least end of the rows behind y is before it
-  after_met : (v : ℕ → Bool) → Gathered (beyond + 1) (λ x z. ltb (end t x) z) from (up_to y) v → y ≤ beyond → v y ≡ met t (after t) from y
-  unfolding Gathered
-  after_met v h b = h y (omega arith) ∙ sym
-      (some_below (λ x. from x && after t x y) (λ x. ltb x y && (from x && ltb (end t x) y)) (rows t) (λ x l. rw (← after_is t x y) (later (from x) (ltb x y) (after t x y) (after_later t x y)))
-      ∙ window_below (λ x. from x && ltb (end t x) y) (rows t) y (omega arith))
-
-  -- before another and not around it: the last of the rows after y is past its end
-  before_met : (v : ℕ → Bool) → Gathered (beyond + 1) (λ x z. ltb z x) from (up_from (y + 1) (rows t - (y + 1))) v → end t y < beyond → v (end t y) ≡ met t (λ x z. after t z x) from y
-  unfolding Gathered
-  before_met v h b = h (end t y) (omega arith) ∙ sym
-      (some_below (λ x. from x && after t y x) (λ x. ltb y x && (from x && ltb (end t y) x)) (rows t) (λ x l. rw (← after_is t y x) (later (from x) (ltb y x) (after t y x) (after_later t y x)))
-      ∙ window_above (λ x. from x && ltb (end t y) x) (rows t) y)
 
 module _ (t : List ℕ) (from : List Bool) (y : ℕ) (low : y < rows t) where
   -- the parent was marked
@@ -214,16 +211,16 @@ module _ (t : List ℕ) (from : List Bool) (y : ℕ) (low : y < rows t) where
   around_hit own given v h b =
       rw (around_met t (giving from (admitted t given)) y low v h b, hit_give t (λ x z. inside t z x) from y (admitted t given)) (hit_own t (λ x z. admitted t given x && inside t z x) from y own low)
 
-  -- after and before, the same way
-  pub after_hit : (given taken : Asked) (v : ℕ → Bool) → Gathered (beyond + 1) (λ x z. ltb (end t x) z) (giving from (admitted t given)) (up_to y) v → y ≤ beyond
-      → (v y && admitted t taken y) ≡ hit t (λ x z. (admitted t given x && after t x z) && admitted t taken z) from y
-  after_hit given taken v h b =
-      rw (after_met t (giving from (admitted t given)) y low v h b, hit_give t (after t) from y (admitted t given)) (hit_take t (λ x z. admitted t given x && after t x z) from y (admitted t taken))
+module _ (t : List ℕ) (from : List Bool) (y : ℕ) (given : Asked) where
+  -- after another and not inside it: the least end of the rows that give is before it
+  pub after_hit : (v : ℕ → Bool) → Gathered (beyond + 1) (λ x z. ltb (end t x) z) (giving from (admitted t given)) (up_to (rows t)) v → y ≤ beyond
+      → v y ≡ hit t (λ x z. admitted t given x && after t x z) from y
+  unfolding Gathered
+  after_hit v h b = h y (omega arith) ∙ some_same _ _ (up_to (rows t)) (λ x. rw (after_is t x y)) ∙ hit_give t (after t) from y (admitted t given)
 
-  pub before_hit : (given taken : Asked) (v : ℕ → Bool) → Gathered (beyond + 1) (λ x z. ltb z x) (giving from (admitted t given)) (up_from (y + 1) (rows t - (y + 1))) v → end t y < beyond
-      → (v (end t y) && admitted t taken y) ≡ hit t (λ x z. (admitted t given x && after t z x) && admitted t taken z) from y
-  before_hit given taken v h b =
-      rw (before_met t (giving from (admitted t given)) y low v h b, hit_give t (λ x z. after t z x) from y (admitted t given)) (hit_take t (λ x z. admitted t given x && after t z x) from y (admitted t taken))
+  -- before another and not around it: the last of the rows that give is past its end
+  pub before_hit : some (λ x. giving from (admitted t given) x && ltb (end t y) x) (up_to (rows t)) ≡ hit t (λ x z. admitted t given x && after t z x) from y
+  before_hit = some_same _ _ (up_to (rows t)) (λ x. rw (after_is t y x)) ∙ hit_give t (λ x z. after t z x) from y (admitted t given)
 
 -- siblings: no attribute gives, and none is taken
 module _ (t : List ℕ) (from : List Bool) (y : ℕ) (low : y < rows t) where

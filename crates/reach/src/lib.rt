@@ -1,15 +1,16 @@
 // The union of an axis over a set of nodes, as marks, in place, in one pass over the rows (each step takes every node of the set so
 // far, and the union goes on). A pass carries what it has gathered from the marked rows behind it: the furthest end, the nearest row,
-// the least end, the last row, or a flag for each parent. It reads a row's mark before it writes it. Tests are joined by & and |, which
-// read both sides, so that no branch hangs on a mark.
+// or a flag for each parent. It reads a row's mark before it writes it. Two axes take a loop to find the bound, the least end or the last
+// row, and a loop to mark by it: then no row waits for the one before. Tests are joined by & and |, which read both sides, so that no
+// branch hangs on a mark, but that on which the search for the last row ends.
 #![tactic(auto)]
 
 ghost use Rattle.std.specs.Prelude.{◌≡◌, true, false, ◌&&◌, ◌||◌, ℕ, ◌<◌, ◌≤◌, ltb, eqb, length, get_or, slice_set};
-ghost use Rattle.meaning.specs.Table.{most_rows, rows, parent_of};
+ghost use Rattle.meaning.specs.Table.{most_rows, rows, parent_of, end};
 ghost use Rattle.meaning.specs.Axis.{under, inside, after, on};
 ghost use Rattle.meaning.specs.declared.Axis.TheVariants.{FollowingSibling, PrecedingSibling};
 ghost use Rattle.reach.specs.declared.Asked.TheVariants.{Plain};
-ghost use Rattle.reach.specs.Reach.{Hits, Room, admitted};
+ghost use Rattle.reach.specs.Reach.{Hits, Room, admitted, hit};
 
 use meaning::{Axis, MOST_ROWS};
 use table::{end_at, is_attribute, parent_at, row_count};
@@ -62,7 +63,7 @@ fn mark_over(table: &[u32], given: Asked, marks: &mut [bool])
     }
 }
 
-// The next four passes stand apart: each goes its own way over the rows and gathers another number.
+// What the next four gather stands apart: each goes its own way over the rows and gathers another number.
 // The rows inside a marked one that are taken, and the marked rows themselves where own: before the furthest end of a marked row behind.
 fn mark_inside(table: &[u32], own: bool, taken: Asked, marks: &mut [bool])
     requires { Room table.now marks.old }
@@ -97,19 +98,46 @@ fn mark_around(table: &[u32], own: bool, given: Asked, marks: &mut [bool])
     }
 }
 
-// The rows that are taken after a marked one that gives, and not inside it: past the least end of such a row behind.
+// The least end of the marked rows that give. The end is read first and then chosen, so that the choice is no branch.
+fn least_end(table: &[u32], given: Asked, from: &[bool]) -> usize
+    requires { (rows table.now ≤ most_rows) × (rows table.now ≤ length from.now) }
+    ensures { (y : ℕ) → y < rows table.now → ltb result y ≡ hit table.now (λ x z. admitted table.now given x && after table.now x z) from.now y }
+{
+    let mut low = BEYOND;
+    for i in 0..row_count(table) {
+        let counted = from[i] & admits(table, given, i);
+        let past = end_at(table, i);
+        let end = if counted { past } else { BEYOND };
+        if end < low {
+            low = end;
+        }
+    }
+    low
+}
+
+// The last of the marked rows that give: the first that is met from the last row down.
+fn last_marked(table: &[u32], given: Asked, from: &[bool]) -> usize
+    requires { (rows table.now ≤ most_rows) × (rows table.now ≤ length from.now) }
+    ensures { (y : ℕ) → ltb (end table.now y) result ≡ hit table.now (λ x z. admitted table.now given x && after table.now z x) from.now y }
+{
+    let mut high = 0;
+    for i in (0..row_count(table)).rev() {
+        if from[i] & admits(table, given, i) {
+            high = i;
+            break;
+        }
+    }
+    high
+}
+
+// The rows that are taken after a marked one that gives, and not inside it: past the least end of such a row.
 fn mark_after(table: &[u32], given: Asked, taken: Asked, marks: &mut [bool])
     requires { Room table.now marks.old }
     ensures { Hits table.now (λ x y. (admitted table.now given x && after table.now x y) && admitted table.now taken y) marks.old marks.new }
 {
-    let mut low = BEYOND;
+    let low = least_end(table, given, marks);
     for i in 0..row_count(table) {
-        let counted = marks[i] & admits(table, given, i);
-        let end = end_at(table, i);
         marks[i] = (low < i) & admits(table, taken, i);
-        if counted & (end < low) {
-            low = end;
-        }
     }
 }
 
@@ -118,14 +146,9 @@ fn mark_before(table: &[u32], given: Asked, taken: Asked, marks: &mut [bool])
     requires { Room table.now marks.old }
     ensures { Hits table.now (λ x y. (admitted table.now given x && after table.now y x) && admitted table.now taken y) marks.old marks.new }
 {
-    let mut high = 0;
-    for i in (0..row_count(table)).rev() {
-        let counted = marks[i] & admits(table, given, i);
-        let reached = (end_at(table, i) < high) & admits(table, taken, i);
-        if counted & (high < i) {
-            high = i;
-        }
-        marks[i] = reached;
+    let high = last_marked(table, given, marks);
+    for i in 0..row_count(table) {
+        marks[i] = (end_at(table, i) < high) & admits(table, taken, i);
     }
 }
 
