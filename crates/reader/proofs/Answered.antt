@@ -1,6 +1,6 @@
 -- The answer of the reader from what its parts find: a bad list of names, what is wrong in the text, and what is composed of it.
 -- Assumes nothing.
-use Prim.Native.Nat.{ℕ, ◌<◌}
+use Prim.Native.Nat.{ℕ, ◌<◌, ◌≤◌}
 use mathlib.Core.Path.{◌≡◌, refl, sym, ◌∙◌, ap, subst}
 use Rattle.std.specs.Prelude.{Option, None, Some}
 use mathlib.Core.Bool.{Bool, true, false}
@@ -36,14 +36,13 @@ unfolding lowest_of
 none_given [] e = refl
 none_given (f ∷ fs) e = cc
 
--- and has a number
-some_numbered : (s : Source) (fs : List Fault) (x : Fault) → AllInText s fs → lowest_of fs ≡ Some x → x.number ≡ 0 → ⊥
+-- and is a fault of the text
+some_in_text : (s : Source) (fs : List Fault) (x : Fault) → AllInText s fs → lowest_of fs ≡ Some x → InText s x
 unfolding lowest_of
-some_numbered s [] x h e z = cc
-some_numbered s (f ∷ fs) x h e z =
+some_in_text s [] x h e = cc
+some_in_text s (f ∷ fs) x h e =
     let same : least f fs ≡ x = cc in
-    let w : InText s x = subst (InText s) same (least_in_text s f fs h) in
-    omega (arith, w.from_24, z)
+    subst (InText s) same (least_in_text s f fs h)
 
 module _ (text list : List ℕ) (room literalRoom : ℕ) where
   -- the names are refused first
@@ -89,19 +88,25 @@ nothing_found text list h = decide (accepts (classes_of text)) refl
     }
     decide false e = let none = refused_form text list e h in cc
 
--- what is wrong has a number
-pub found_numbered : (text list : List ℕ) (x : Fault) → found (form_of text) text list ≡ Some x → x.number ≡ 0 → ⊥
-found_numbered text list x h z = decide (accepts (classes_of text)) refl
+-- what is wrong has a number from 23 to 26
+pub found_between : (text list : List ℕ) (x : Fault) → found (form_of text) text list ≡ Some x → (23 ≤ x.number) × (x.number ≤ 26)
+found_between text list x h = decide (accepts (classes_of text)) refl
   where
-    decide : (b : Bool) → accepts (classes_of text) ≡ b → ⊥
+    decide : (b : Bool) → accepts (classes_of text) ≡ b → (23 ≤ x.number) × (x.number ≤ 26)
     decide true e =
-        some_numbered (source text list) (text_faults (source text list) (syntax_of (classes_of text))) x
-        (all_in_text text list e) (accepted_form text list e h) z
+        let w : InText (source text list) x =
+        some_in_text (source text list) (text_faults (source text list) (syntax_of (classes_of text))) x
+        (all_in_text text list e) (accepted_form text list e h) in
+        (omega (arith, w.from_24), w.to_26)
     decide false e =
         let some = refused_form text list e h in
         let same : record { number = 23; place = byte_of text (readable start (classes_of text)) } ≡ x = cc in
         let n : 23 ≡ x.number = ap (λ (g : Fault). g.number) same in
-        omega arith
+        (omega arith, omega arith)
+
+-- so not 0
+pub found_numbered : (text list : List ℕ) (x : Fault) → found (form_of text) text list ≡ Some x → x.number ≡ 0 → ⊥
+found_numbered text list x h z = omega (arith, (found_between text list x h).0, z)
 
 module _ (text list : List ℕ) (room literalRoom : ℕ) where
   -- then the limits and the rooms

@@ -1,2 +1,3 @@
 pub mod Answered
 pub mod Handed
+pub mod Unique

@@ -6,7 +6,7 @@ ghost use Rattle.std.specs.Prelude.{◌≡◌, ◌*◌, ◌<◌, ◌≤◌, leng
 ghost use Rattle.names.specs.Index.{Roomy};
 ghost use Rattle.text.specs.Reading.{ReadsPath};
 ghost use Rattle.reader.specs.Handing.{Clean, handed, literals_told, Hands};
-ghost use Rattle.reader.specs.Told.{refused, told, literals_of};
+ghost use Rattle.reader.specs.Told.{refused, HasOwnNumber, told, literals_of};
 
 use basics::copy;
 use compose::{Composed, compose};
@@ -39,7 +39,7 @@ pub enum TextRefusal {
 fn limits(composed: Composed, room: usize, literal_room: usize) -> Result<Written, TextRefusal>
     requires { (composed.rows ≤ 256) × (composed.literals ≤ 256) }
     ensures { (told result ≡ handed composed.rows composed.literals composed.depth room literal_room)
-        × (literals_of result ≡ literals_told (told result) composed.literals) × IfErr result (λ r. 0 < (refused r).number) }
+        × (literals_of result ≡ literals_told (told result) composed.literals) × IfErr result (λ r. (0 < (refused r).number) × HasOwnNumber r) }
 {
     let rows = composed.rows;
     let literals = composed.literals;
@@ -72,7 +72,7 @@ fn hand_over(
     requires { (composed.rows ≤ 256) × (composed.literals ≤ 256) × (5 * composed.rows ≤ length drafted.now)
         × (composed.literals ≤ length values.now) }
     ensures { Hands composed.rows composed.literals composed.depth drafted.now values.now rows.old literals.old (told result)
-        (literals_of result) rows.new literals.new }
+        (literals_of result) rows.new literals.new × IfErr result HasOwnNumber }
 {
     let written = limits(composed, rows.len(), literals.len())?;
     copy(&drafted[..5 * composed.rows], rows);
@@ -88,7 +88,8 @@ fn read_clean(
     literals: &mut [f64],
 ) -> Result<Written, TextRefusal>
     requires { Clean text.now names.now.list.now }
-    ensures { ReadsPath text.now names.now.list.now rows.old literals.old (told result) (literals_of result) rows.new literals.new }
+    ensures { ReadsPath text.now names.now.list.now rows.old literals.old (told result) (literals_of result) rows.new literals.new
+        × IfErr result HasOwnNumber }
 {
     let mut drafted = [0u32; 2600];
     let mut values = [0.0f64; 258];
@@ -107,7 +108,8 @@ fn read_within<const LINES: usize, const EIGHTHS: usize>(
     literals: &mut [f64],
 ) -> Result<Written, TextRefusal>
     requires { Roomy list.now LINES LINES EIGHTHS × (LINES ≤ 65536) × (EIGHTHS ≤ 8192) }
-    ensures { ReadsPath text.now list.now rows.old literals.old (told result) (literals_of result) rows.new literals.new }
+    ensures { ReadsPath text.now list.now rows.old literals.old (told result) (literals_of result) rows.new literals.new
+        × IfErr result HasOwnNumber }
 {
     let mut heads = [0u16; LINES];
     let mut nexts = [0u16; LINES];
@@ -136,7 +138,8 @@ pub fn read_path(
     rows: &mut [u32],
     literals: &mut [f64],
 ) -> Result<Written, TextRefusal>
-    ensures { ReadsPath text.now list.now rows.old literals.old (told result) (literals_of result) rows.new literals.new }
+    ensures { ReadsPath text.now list.now rows.old literals.old (told result) (literals_of result) rows.new literals.new
+        × IfErr result HasOwnNumber }
 {
     if list.len() < 512 {
         return read_within::<256, 32>(text, list, rows, literals);

@@ -10,7 +10,7 @@ pub returns-in_err-written : goal.returns-in_err-written
 returns-in_err-written c =
     let told = c.in_err-written.ensures in
     let p = err_from_is_err_and c.from_residual.result c.from_residual.ensures.1 in
-    rw (p.1, p.2) (hands_refused _ _ _ _ _ _ _ _ _ told.0 told.1 (λ z. omega (arith, told.2, z)))
+    rw (p.1, p.2) (hands_refused _ _ _ _ _ _ _ _ _ told.0 told.1 (λ z. omega (arith, told.2.0, z)), told.2.1)
 
 pub slice_bounds-copy-end : goal.slice_bounds-copy-end
 slice_bounds-copy-end c = sym (length-take-le _ _ (omega arith))
@@ -31,4 +31,4 @@ copy-requires-2 c =
 pub returns : goal.returns
 returns c =
     let told = c.in_ok-written.ensures in
-    hands_written _ _ _ _ _ _ _ _ _ told.0 told.1 refl c.copy.ensures c.copy-2.ensures
+    (hands_written _ _ _ _ _ _ _ _ _ told.0 told.1 refl c.copy.ensures c.copy-2.ensures, tt)

@@ -8,7 +8,7 @@ compose-composed-requires c = (clean_plain _ _ c.requires, refl, refl)
 
 pub returns-then-composed-gt256 : goal.returns-then-composed-gt256
 returns-then-composed-gt256 c =
-    reads_full _ _ _ _ c.requires _ c.compose-composed.ensures c.args.names.now.indexed.fine _ _ c.if-composed-gt256.true
+    (reads_full _ _ _ _ c.requires _ c.compose-composed.ensures c.args.names.now.indexed.fine _ _ c.if-composed-gt256.true, tt)
 
 pub hand_over-requires : goal.hand_over-requires
 hand_over-requires c =
@@ -18,5 +18,8 @@ hand_over-requires c =
 
 pub returns : goal.returns
 returns c =
-    reads_handed _ _ _ _ c.requires _ c.compose-composed.ensures c.args.names.now.indexed.fine _ _ _ _ c.if-composed-gt256.false c.hand_over.ensures
-    (omega (arith, c.values-2-1))
+    let handed = c.hand_over.ensures in (
+      reads_handed _ _ _ _ c.requires _ c.compose-composed.ensures c.args.names.now.indexed.fine _ _ _ _ c.if-composed-gt256.false handed.0
+          (omega (arith, c.values-2-1)),
+      handed.1,
+    )
