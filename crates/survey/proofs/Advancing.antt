@@ -26,6 +26,7 @@ use Rattle.modes.specs.Acts.{act_number, act_of}
 use Rattle.levels.specs.Levels.{own_of, urgency_of, sound}
 use Rattle.survey.specs.declared.walk.State.{State}
 use Rattle.survey.specs.declared.look.Seen.{Seen}
+use Rattle.survey.specs.declared.window.Slot.{Slot}
 use Rattle.survey.specs.Window.{span, level_at, stored}
 use Rattle.survey.specs.Looking.{Known, Sees}
 use Rattle.survey.specs.Standing.{trail, trail_of, Goes, Reads, at_start, refusal, level_past, gone_on, opened_by, Opens, taken, is_bracketed, left_by, parted_by, last_fault, Standing, Closing, Ready, Surveyed, Advanced}
@@ -47,7 +48,7 @@ is_so false e = sym e
 
 -- ---- it goes on, or it ends
 
-module _ (text list : List ℕ) (w : List Level) (k : ℕ) (r : State) where
+module _ (text list : List ℕ) (w : List Slot) (k : ℕ) (r : State) where
   goes_on : Standing text list w r → r.ended ≡ false → r.count ≡ k + 1 → Advanced text list w k r
   goes_on h e n = record {
     surveyed = record { goes_on = λ _. h; ends = λ d. absurd (true≢false (sym d ∙ e)); size = h.size };
@@ -62,7 +63,7 @@ module _ (text list : List ℕ) (w : List Level) (k : ℕ) (r : State) where
 
 -- ---- nothing was read
 
-module _ (text list : List ℕ) (w : List Level) (n : length w ≡ span) where
+module _ (text list : List ℕ) (w : List Slot) (n : length w ≡ span) where
   first : byte_of text 0 ≡ run_end Spaces text 0
   first = byte_behind (cut_start text)
 
@@ -99,7 +100,7 @@ unfolding act_of act_number rows pick
 unknown_refused q = refl
 
 module _
-    {text list : List ℕ} {w : List Level} {s : State} (h : Standing text list w s) {t : Seen} (v : Sees text s.at s.due s.mode t) where
+    {text list : List ℕ} {w : List Slot} {s : State} (h : Standing text list w s) {t : Seen} (v : Sees text s.at s.due s.mode t) where
   -- it is the end of the text
   pub advanced_ends :
       (r : State) → t.kind ≡ 34 → (r.ended ≡ true) × (r.fault ≡ last_fault (length text) s) → Advanced text list w s.count r
@@ -168,18 +169,18 @@ module _
 
     -- it opens a level
     pub advanced_enters :
-        (r : State) (own : Option ℕ) (w' : List Level) → own ≡ own_of (source text list) t.kind t.begin → 15 ≤ t.act → t.act < 18
+        (r : State) (own : Option ℕ) (w' : List Slot) → own ≡ own_of (source text list) t.kind t.begin → 15 ≤ t.act → t.act < 18
         → (r ≡ opened_by own s t) × (w' ≡ stored w s.depth (level_past s t)) → Advanced text list w' s.count r
     unfolding opened_by
     advanced_enters r own w' o least most (e, d) =
-        subst⁻¹ (λ (u : List Level). Advanced text list u s.count r) d
+        subst⁻¹ (λ (u : List Slot). Advanced text list u s.count r) d
         (subst⁻¹ (Advanced text list (stored w s.depth (level_past s t)) s.count) (e ∙ ap (λ (n : Option ℕ). opened_by n s t) o)
         (goes_on text list (stored w s.depth (level_past s t)) s.count (opened_by (own_of (source text list) t.kind t.begin) s t)
         (standing_enters h known class on least most) refl refl))
 
     -- it closes a level or parts two arguments
     pub advanced_closes :
-        (r : State) (w' : List Level) (low : ℕ) (outer : Level) → 18 ≤ t.act → Ready text s.count s.depth low w'
+        (r : State) (w' : List Slot) (low : ℕ) (outer : Level) → 18 ≤ t.act → Ready text s.count s.depth low w'
         → outer ≡ level_at w' (s.depth - 1)
         → r ≡ cond (eqb t.act 20) (parted_by s t low outer) (left_by s t low outer) → Advanced text list w' s.count r
     unfolding left_by parted_by
@@ -200,7 +201,7 @@ abbrev pub steps_left : List ℕ → State → ℕ
 steps_left text s = cond s.ended 0 (length text + 1 - s.count)
 
 pub advanced_less :
-    {text list : List ℕ} {w w' : List Level} {s r : State} → s.ended ≡ false → Standing text list w s → Advanced text list w' s.count r
+    {text list : List ℕ} {w w' : List Slot} {s r : State} → s.ended ≡ false → Standing text list w s → Advanced text list w' s.count r
     → steps_left text r < steps_left text s
 advanced_less {text = text} {s = s} {r = r} e h a = rw e (by r.ended refl)
   where

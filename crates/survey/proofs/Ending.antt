@@ -34,6 +34,7 @@ use Rattle.levels.proofs.Urgent.{Possible, Tells, sound_is, none_urgent, there_u
 use Rattle.levels.proofs.Nesting.{brackets_of}
 use Rattle.modes.proofs.Table.{every, at}
 use Rattle.survey.specs.declared.walk.State.{State}
+use Rattle.survey.specs.declared.window.Slot.{Slot}
 use Rattle.survey.specs.Standing.{refusal, last_fault, Standing}
 use Rattle.survey.proofs.Standing.{goes_is, left_of, machine}
 
@@ -99,7 +100,7 @@ accepting_is m l (o ∷ ls) = rw (ne_eqb (suc (length ls)) 0 (λ e. omega arith)
 
 -- ---- the end of the text
 
-module _ {text list : List ℕ} {w : List Level} {s : State} (h : Standing text list w s) (last : length text ≤ run_end Spaces text s.at) where
+module _ {text list : List ℕ} {w : List Slot} {s : State} (h : Standing text list w s) (last : length text ≤ run_end Spaces text s.at) where
   all_read : take s.count (classes_of text) ≡ classes_of text
   all_read =
       let e : s.count ≡ length (classes_of text) = cut_end h.cut last ∙ sym (classes_length text) in

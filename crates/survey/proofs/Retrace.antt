@@ -25,6 +25,7 @@ use Rattle.modes.specs.Acts.{modes, opened, act_number, act_of}
 use Rattle.levels.specs.Levels.{group_of, tightness_of, level_in}
 use Rattle.survey.specs.declared.look.Seen.{Seen}
 use Rattle.survey.specs.declared.refill.Trace.{Trace}
+use Rattle.survey.specs.declared.window.Slot.{Slot}
 use Rattle.survey.specs.Window.{span, level_at, stored, Holds}
 use Rattle.survey.specs.Looking.{Known, Sees}
 use Rattle.survey.specs.Standing.{trail, opened_kind, name_at, trailed, mode_in, kind_at, trail_of, Goes, Small, Smalls, one, Left, Traced, Follows, Refilled}
@@ -181,7 +182,7 @@ bracket_due k q h m a =
 
 -- ---- one token more
 
-module _ {text : List ℕ} {w : List Level} {lo hi : ℕ} {t : Trace} (r : Traced text w lo hi t) where
+module _ {text : List ℕ} {w : List Slot} {lo hi : ℕ} {t : Trace} (r : Traced text w lo hi t) where
   left_by : Left (length text) t.mode r.level r.around t.name
   left_by = trail_is_left text t.count t.mode r.level r.around t.name r.cut.count r.trails
 
@@ -217,7 +218,7 @@ first_small (one h hs) = h
 abbrev pub level_behind : Trace → Seen → Level → Level
 level_behind t s l = level_in (group_of s.kind) (tightness_of s.kind) t.mode s.behind l
 
-module _ {text : List ℕ} {w : List Level} {lo hi : ℕ} {t : Trace} {s : Seen} (f : Follows text w lo hi t s) where
+module _ {text : List ℕ} {w : List Slot} {lo hi : ℕ} {t : Trace} {s : Seen} (f : Follows text w lo hi t s) where
   trails_on :
       trail_of text (t.count + 1)
       ≡ trailed text s.kind s.act s.begin s.behind (trail t.mode f.traced.level f.traced.around t.name)
@@ -276,7 +277,7 @@ module _ {text : List ℕ} {w : List Level} {lo hi : ℕ} {t : Trace} {s : Seen}
 
   -- one that opens a level: the level around it is kept, if the window is for it
   pub traced_opens :
-      (w' : List Level) (due : Bool) (mode : ℕ) (o l : Level) → 15 ≤ s.act → s.act < 18 → due ≡ operator_due s.kind
+      (w' : List Slot) (due : Bool) (mode : ℕ) (o l : Level) → 15 ≤ s.act → s.act < 18 → due ≡ operator_due s.kind
       → mode ≡ cond (eqb s.act 16) 1 0
       → o ≡ level_behind t s t.level
       → l ≡ fresh (opened_kind s.act t.name) s.behind
@@ -300,13 +301,13 @@ module _ {text : List ℕ} {w : List Level} {lo hi : ℕ} {t : Trace} {s : Seen}
         trails = trailed-on;
         deep = omega (arith, f.traced.deep);
         shallow = omega (arith, f.traced.shallow);
-        holds = subst⁻¹ (λ (v : List Level). Holds v lo hi levels) x (kept (leb lo t.depth && ltb t.depth hi) refl);
+        holds = subst⁻¹ (λ (v : List Slot). Holds v lo hi levels) x (kept (leb lo t.depth && ltb t.depth hi) refl);
         same = λ i j. u;
         kind = rw u left.small.kind;
         rank = rw u left.small.rank;
         size =
             ap length x
-            ∙ choice (λ (v : List Level). length v ≡ span) (leb lo t.depth && ltb t.depth hi)
+            ∙ choice (λ (v : List Slot). length v ≡ span) (leb lo t.depth && ltb t.depth hi)
             (λ _. stored_length w t.depth o ∙ f.traced.size) (λ _. f.traced.size);
         reach = f.traced.reach;
       }
@@ -404,7 +405,7 @@ module _ {text : List ℕ} {w : List Level} {lo hi : ℕ} {t : Trace} {s : Seen}
 -- ---- the whole reading
 
 pub traced_start :
-    (text : List ℕ) (w : List Level) (lo hi : ℕ) (l : Level) → l ≡ fresh 0 (run_end Spaces text 0) → length w ≡ span → hi ≤ lo + span
+    (text : List ℕ) (w : List Slot) (lo hi : ℕ) (l : Level) → l ≡ fresh 0 (run_end Spaces text 0) → length w ≡ span → hi ≤ lo + span
     → Traced text w lo hi (record { count = 0; at = 0; due = false; mode = 0; depth = 0; name = 0; level = l })
 unfolding trail_of Goes run is_stuck
 traced_start text w lo hi l e n m =
@@ -425,7 +426,7 @@ traced_start text w lo hi l e n m =
       reach = m;
     }
 
-pub traced_done : {text : List ℕ} {w : List Level} {lo hi k : ℕ} {t : Trace} → t.count ≡ k → Traced text w lo hi t → Refilled text k w lo hi
+pub traced_done : {text : List ℕ} {w : List Slot} {lo hi k : ℕ} {t : Trace} → t.count ≡ k → Traced text w lo hi t → Refilled text k w lo hi
 unfolding Refilled
 traced_done {text} {w} {lo} {hi} {t = t} h c q l ls n e =
     let same : ls ≡ c.around = cc (e, h, c.trails) in

@@ -31,6 +31,7 @@ use Rattle.levels.proofs.Nesting as N
 use Rattle.levels.proofs.Steps.{token_goes, token_enters, token_leaves, token_parts}
 use Rattle.survey.specs.declared.walk.State as W
 use Rattle.survey.specs.declared.look.Seen.{Seen}
+use Rattle.survey.specs.declared.window.Slot.{Slot}
 use Rattle.survey.specs.Window.{span, level_at, stored, Holds}
 use Rattle.survey.specs.Looking.{Known}
 use Rattle.survey.specs.Standing.{trail, name_at, trailed, trail_of, Goes, Small, Smalls, one, Left, Refilled, refusal, level_past, fault_past, gone_on, lowest, opened_by, Called, Opens, taken, is_bracketed, left_by, parted_by, surveyed_to, survey_of, Standing, Closing, Ready}
@@ -43,13 +44,13 @@ use Rattle.survey.proofs.Taking.{act_stuck, taken_some, taken_whole, run_next, r
 -- ---- the window's levels are those of the trail
 
 pub held :
-    (text : List ℕ) (w : List Level) (k lo hi : ℕ) {q n : ℕ} {l : Level} {ls : List Level} → Refilled text k w lo hi → trail_of text k ≡ trail q l ls n
+    (text : List ℕ) (w : List Slot) (k lo hi : ℕ) {q n : ℕ} {l : Level} {ls : List Level} → Refilled text k w lo hi → trail_of text k ≡ trail q l ls n
     → Holds w lo hi ls
 unfolding Refilled
 held text w k lo hi {q} {n} {l} {ls} r e = r q l ls n e
 
 pub refilled :
-    (text : List ℕ) (w : List Level) (k lo hi : ℕ) {q n : ℕ} {l : Level} {ls : List Level} → trail_of text k ≡ trail q l ls n → Holds w lo hi ls
+    (text : List ℕ) (w : List Slot) (k lo hi : ℕ) {q n : ℕ} {l : Level} {ls : List Level} → trail_of text k ≡ trail q l ls n → Holds w lo hi ls
     → Refilled text k w lo hi
 unfolding Refilled
 refilled text w k lo hi {ls = ls} e h q' l' ls' n' e' = let same : ls ≡ ls' = cc in subst (Holds w lo hi) same h
@@ -83,7 +84,7 @@ first_small (one h hs) = h
 
 -- ---- where the survey stands
 
-module _ {text list : List ℕ} {w : List Level} {s : W.State} (h : Standing text list w s) where
+module _ {text list : List ℕ} {w : List Slot} {s : W.State} (h : Standing text list w s) where
   pub left_of : Left (length text) s.mode s.level h.around s.name
   left_of = trail_is_left text s.count s.mode s.level h.around s.name h.cut.count h.trails
 
@@ -268,7 +269,7 @@ module _ {text list : List ℕ} {w : List Level} {s : W.State} (h : Standing tex
           (subst (λ (ls : List Level). T (nested s.level ls)) someone.2 machine.1)
 
       module _
-          {v : List Level} {low : ℕ} {outer : Level} (ready : Ready text s.count s.depth low v)
+          {v : List Slot} {low : ℕ} {outer : Level} (ready : Ready text s.count s.depth low v)
           (loaded : outer ≡ level_at v (s.depth - 1)) where
         beyond : List Level
         beyond = someone.1

@@ -11,23 +11,24 @@ use lib.ListN.{length, get_or, length-set}
 use lib.Seq.{get_or-set_same, get_or-set_other}
 use Rattle.text.specs.declared.Level.{Level}
 use Rattle.text.specs.Survey.{fresh}
-use Rattle.survey.specs.Window.{span, level_at, stored, on_level, Holds}
+use Rattle.survey.specs.declared.window.Slot.{Slot}
+use Rattle.survey.specs.Window.{span, slot_of, level_of, level_at, stored, on_level, Holds}
 
 -- ---- the window
 
 -- what was stored is read back
-pub stored_here : (w : List Level) (i : ℕ) (l : Level) → length w ≡ span → level_at (stored w i l) i ≡ l
+pub stored_here : (w : List Slot) (i : ℕ) (l : Level) → length w ≡ span → level_at (stored w i l) i ≡ l
 unfolding level_at stored
-stored_here w i l h = get_or-set_same w (i % span) l (fresh 0 0) (omega arith)
+stored_here w i l h = ap level_of (get_or-set_same w (i % span) (slot_of l) (slot_of (fresh 0 0)) (omega arith))
 
 -- and the other levels are as they were
-pub stored_elsewhere : (w : List Level) (i j : ℕ) (l : Level) → (i % span ≡ j % span → ⊥) → level_at (stored w i l) j ≡ level_at w j
+pub stored_elsewhere : (w : List Slot) (i j : ℕ) (l : Level) → (i % span ≡ j % span → ⊥) → level_at (stored w i l) j ≡ level_at w j
 unfolding level_at stored
-stored_elsewhere w i j l h = get_or-set_other w (i % span) (j % span) l (fresh 0 0) (λ q. h (sym q))
+stored_elsewhere w i j l h = ap level_of (get_or-set_other w (i % span) (j % span) (slot_of l) (slot_of (fresh 0 0)) (λ q. h (sym q)))
 
-pub stored_length : (w : List Level) (i : ℕ) (l : Level) → length (stored w i l) ≡ length w
+pub stored_length : (w : List Slot) (i : ℕ) (l : Level) → length (stored w i l) ≡ length w
 unfolding stored
-stored_length w i l = length-set w (i % span) l
+stored_length w i l = length-set w (i % span) (slot_of l)
 
 -- ---- levels are opened and closed
 
@@ -42,13 +43,13 @@ on_level_top o around =
     ap (λ (k : ℕ). get_or (o ∷ around) k (fresh 0 0)) e
 
 -- nothing is open
-pub holds_none : (w : List Level) (lo hi : ℕ) → Holds w lo hi []
+pub holds_none : (w : List Slot) (lo hi : ℕ) → Holds w lo hi []
 unfolding Holds
 holds_none w lo hi i a b c = absurd (omega arith)
 
 -- one level more is open and stored; the lowest may have had to give way
 pub holds_stored :
-    (w : List Level) (lo hi lo' hi' : ℕ) (o : Level) (around : List Level) → length w ≡ span → lo ≤ lo' → length around ≤ hi
+    (w : List Slot) (lo hi lo' hi' : ℕ) (o : Level) (around : List Level) → length w ≡ span → lo ≤ lo' → length around ≤ hi
     → length around < lo' + span → Holds w lo hi around → Holds (stored w (length around) o) lo' hi' (o ∷ around)
 unfolding Holds
 holds_stored w lo hi lo' hi' o around n h m k held i a b c =
@@ -62,13 +63,13 @@ holds_stored w lo hi lo' hi' o around n h m k held i a b c =
     (lt_or_ge i (length around))
 
 pub holds_opened :
-    (w : List Level) (lo lo' : ℕ) (o : Level) (around : List Level) → length w ≡ span → lo ≤ lo' → length around ≤ lo + span
+    (w : List Slot) (lo lo' : ℕ) (o : Level) (around : List Level) → length w ≡ span → lo ≤ lo' → length around ≤ lo + span
     → length around < lo' + span → Holds w lo (lo + span) around → Holds (stored w (length around) o) lo' (lo' + span) (o ∷ around)
 holds_opened w lo lo' o around = holds_stored w lo (lo + span) lo' (lo' + span) o around
 
 -- one level more is open, outside the window
 pub holds_passed :
-    (w : List Level) (lo hi : ℕ) (o : Level) (around : List Level) → (length around < lo) ⊎ (hi ≤ length around) → Holds w lo hi around
+    (w : List Slot) (lo hi : ℕ) (o : Level) (around : List Level) → (length around < lo) ⊎ (hi ≤ length around) → Holds w lo hi around
     → Holds w lo hi (o ∷ around)
 unfolding Holds
 holds_passed w lo hi o around out held i a b c =
@@ -79,13 +80,13 @@ holds_passed w lo hi o around out held i a b c =
     (lt_or_ge i (length around))
 
 -- the innermost of them closes
-pub holds_closed : (w : List Level) (lo hi : ℕ) (o : Level) (around : List Level) → Holds w lo hi (o ∷ around) → Holds w lo hi around
+pub holds_closed : (w : List Slot) (lo hi : ℕ) (o : Level) (around : List Level) → Holds w lo hi (o ∷ around) → Holds w lo hi around
 unfolding Holds
 holds_closed w lo hi o around held i a b c = held i a b (omega arith) ∙ on_level_below o around i c
 
 -- and can be read, if the window holds it
 pub holds_top :
-    (w : List Level) (lo hi : ℕ) (o : Level) (around : List Level) → lo ≤ length around → length around < hi → Holds w lo hi (o ∷ around)
+    (w : List Slot) (lo hi : ℕ) (o : Level) (around : List Level) → lo ≤ length around → length around < hi → Holds w lo hi (o ∷ around)
     → level_at w (length around) ≡ o
 unfolding Holds
 holds_top w lo hi o around a b held = held (length around) a b (omega arith) ∙ on_level_top o around

@@ -22,6 +22,7 @@ use Rattle.survey.specs.declared.refill.Trace.{Trace}
 use Rattle.survey.specs.declared.walk.State.{State}
 use Rattle.survey.specs.declared.look.Seen.{Seen}
 use Rattle.survey.specs.Looking.{Known}
+use Rattle.survey.specs.declared.window.Slot.{Slot}
 use Rattle.survey.specs.Window.{span, Holds}
 
 -- ---- the trail
@@ -105,7 +106,7 @@ Goes text k = is_stuck (run start (take k (classes_of text))) ≡ false
 -- ---- reading again
 
 -- a reading; the window holds the levels from lo to before hi, and the trace's level is right if it is one of those
-pub record Traced (text : List ℕ) (w : List Level) (lo hi : ℕ) (t : Trace) : Type 0 where
+pub record Traced (text : List ℕ) (w : List Slot) (lo hi : ℕ) (t : Trace) : Type 0 where
   pub cut : Cut text t.count t.at t.due
   pub goes : Goes text t.count
   pub level : Level
@@ -121,14 +122,14 @@ pub record Traced (text : List ℕ) (w : List Level) (lo hi : ℕ) (t : Trace) :
   pub reach : hi ≤ lo + span
 
 -- and the next token, which is taken
-pub record Follows (text : List ℕ) (w : List Level) (lo hi : ℕ) (t : Trace) (s : Seen) : Type 0 where
+pub record Follows (text : List ℕ) (w : List Slot) (lo hi : ℕ) (t : Trace) (s : Seen) : Type 0 where
   pub traced : Traced text w lo hi t
   pub known : Known text t.at t.due t.mode s
   pub class : s.kind < 33
   pub goes : Goes text (t.count + 1)
 
 -- the window holds the levels from lo to before hi behind k tokens
-unfoldable pub Refilled : List ℕ → ℕ → List Level → ℕ → ℕ → Type 0
+unfoldable pub Refilled : List ℕ → ℕ → List Slot → ℕ → ℕ → Type 0
 Refilled text k w lo hi = (q : ℕ) (l : Level) (ls : List Level) (n : ℕ) → trail_of text k ≡ trail q l ls n → Holds w lo hi ls
 
 -- ---- what a token does to the survey's state
@@ -267,7 +268,7 @@ abbrev pub survey_of : Source → State → List Level → Survey
 survey_of o s around = survey (get_or modes s.mode operand) s.level around s.sort s.name (urgency_of o s.fault)
 
 -- the reading knows all that the survey does
-pub record Standing (text list : List ℕ) (w : List Level) (s : State) : Type 0 where
+pub record Standing (text list : List ℕ) (w : List Slot) (s : State) : Type 0 where
   pub cut : Cut text s.count s.at s.due
   pub goes : Goes text s.count
   pub few : s.count ≤ s.at
@@ -283,7 +284,7 @@ pub record Standing (text list : List ℕ) (w : List Level) (s : State) : Type 0
   pub sounds : T (sound (source text list) s.fault)
 
 -- some levels are open, and the window may have to be filled again for the innermost of those around
-pub record Closing (text : List ℕ) (count depth low : ℕ) (w : List Level) : Type 0 where
+pub record Closing (text : List ℕ) (count depth low : ℕ) (w : List Slot) : Type 0 where
   pub goes : Goes text count
   pub fits : count ≤ length (tokens text)
   pub holds : Refilled text count w low (low + span)
@@ -292,7 +293,7 @@ pub record Closing (text : List ℕ) (count depth low : ℕ) (w : List Level) : 
   pub size : length w ≡ span
 
 -- the window holds the innermost of the levels around
-pub record Ready (text : List ℕ) (count depth low : ℕ) (w : List Level) : Type 0 where
+pub record Ready (text : List ℕ) (count depth low : ℕ) (w : List Slot) : Type 0 where
   pub holds : Refilled text count w low (low + span)
   pub least : low < depth
   pub most : depth ≤ low + span
@@ -301,12 +302,12 @@ pub record Ready (text : List ℕ) (count depth low : ℕ) (w : List Level) : Ty
 -- ---- what the survey finds
 
 -- the survey stands in the text, or it has ended with what is found
-pub record Surveyed (text list : List ℕ) (w : List Level) (s : State) : Type 0 where
+pub record Surveyed (text list : List ℕ) (w : List Slot) (s : State) : Type 0 where
   pub goes_on : s.ended ≡ false → Standing text list w s
   pub ends : s.ended ≡ true → s.fault ≡ found (form_of text) text list
   pub size : length w ≡ span
 
 -- and if it goes on, then behind one token more
-pub record Advanced (text list : List ℕ) (w : List Level) (k : ℕ) (s : State) : Type 0 where
+pub record Advanced (text list : List ℕ) (w : List Slot) (k : ℕ) (s : State) : Type 0 where
   pub surveyed : Surveyed text list w s
   pub further : s.ended ≡ false → s.count ≡ k + 1

@@ -2,7 +2,7 @@
 -- Assumes nothing.
 use native.Mathlib.Omega.{arith}
 use mathlib.Core.Path.{refl, ◌∙◌}
-use Rattle.survey.proofs.Retrace.{follows_room, call_named, traced_opens}
+use Rattle.survey.proofs.Retrace.{follows_room, call_named, behind_fits, traced_opens}
 use Rattle.survey.proofs.refill.open.Goals as goal
 
 pub overflow_add-result : goal.overflow_add-result
@@ -15,6 +15,11 @@ overflow_add-result-2 c =
 
 pub opened_kind-requires : goal.opened_kind-requires
 opened_kind-requires c = call_named c.requires.0
+
+pub keep-requires : goal.keep-requires
+keep-requires c =
+    let fits = behind_fits c.requires.0 in
+    (rw (c.level-left.ensures, c.new.ensures) fits.0, rw (c.level-left.ensures, c.new.ensures) fits.1)
 
 pub returns : goal.returns
 returns c = (

@@ -4,6 +4,9 @@ use mathlib.Core.Path.{◌∙◌}
 use Rattle.survey.specs.Standing.{opened_by, Called}
 use Rattle.survey.proofs.walk.entered.Goals as goal
 
+pub store-requires : goal.store-requires
+store-requires c = (rw c.level_behind.ensures c.requires.kind, rw c.level_behind.ensures c.requires.rank)
+
 pub opened_kind-requires : goal.opened_kind-requires
 unfolding Called
 opened_kind-requires c = c.requires.called
