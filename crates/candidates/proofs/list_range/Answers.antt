@@ -12,8 +12,7 @@ loop-y-init c = (omega arith, omega arith, omega arith, refl, ranged_start _ _ _
 
 pub loop-y-preserved : goal.loop-y-preserved
 loop-y-preserved c =
-    let inv = c.loop-y.invariant in
-    (
+    let inv = c.loop-y.invariant in (
       omega arith,
       omega arith,
       omega (arith, counted_once c.is_in_range.result, c.from-m.ensures),
