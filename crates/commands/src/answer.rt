@@ -1,6 +1,6 @@
 // The answers: each calls a public function of the library and puts what it gave into the reply.
 use crate::command::{Question, TableQuestion};
-use crate::desk::{Desk, MOST_HELD};
+use crate::desk::{Desk, MOST_HELD, MOST_NUMBERS};
 use crate::outcome::{Entry, Outcome};
 use crate::reply::{Entries, Reply};
 use lines::{Numbers, small};
@@ -10,9 +10,6 @@ use std::io;
 
 // The most entries of an output or of a list.
 const MOST_ENTRIES: usize = 4200;
-
-// The most numbers of a table that the library takes.
-const MOST_NUMBERS: usize = 4 * MOST_ROWS;
 
 impl Desk {
     // Answers a question about the path or the file.
@@ -32,14 +29,18 @@ impl Desk {
         }
     }
 
-    // Answers a question about the table, which is held.
+    // Answers a question about the table. It is not inlined: a line that sets would pay for the room that `write!` keeps for errors.
+    #[inline(never)]
     pub fn answer_of_table(
         &self,
         question: TableQuestion,
-        table: &[u32],
         numbers: Numbers<'_>,
         reply: &mut Reply,
     ) -> io::Result<()> {
+        if let Some(length) = self.too_long {
+            return self.answer_limit(length, reply);
+        }
+        let table = &self.table;
         match question {
             TableQuestion::Check => {
                 let outcome = table_check::check_table(table);
@@ -52,14 +53,12 @@ impl Desk {
         }
     }
 
-    // Which limit the length of a table that is not held is above. Above its own the library is asked: it looks at the length alone, so any
-    // numbers do.
-    pub fn answer_limit(&self, length: usize, reply: &mut Reply) -> io::Result<()> {
+    // Which limit the length of a table that is not held is above. Above its own the library is asked.
+    fn answer_limit(&self, length: usize, reply: &mut Reply) -> io::Result<()> {
         if length <= MOST_NUMBERS {
             return reply.own_limit(MOST_HELD);
         }
-        let table = vec![in self.alloc; 0; length.min(MOST_NUMBERS + 4)]?;
-        let outcome = table_check::check_table(&table);
+        let outcome = table_check::check_table(&self.table);
         reply.library_limit(Outcome::from(outcome), MOST_ROWS)
     }
 

@@ -11,22 +11,23 @@ mod reply;
 use desk::Desk;
 use reply::Reply;
 use std::io;
-use std::io::{BufWriter, Input, Read, Write};
+use std::io::{Input, Read};
 
 // Room for the text of all commands.
 const MOST_TEXT: usize = 2097152;
 
-// What a program does: it answers the commands of its standard input.
+// What a program does: it answers the commands of its standard input, and writes each reply as soon as it is known.
 pub fn run_standard_input(rt: &(impl Input + Print + AllocGlobal)) -> io::Result<()> {
     let alloc = rt.alloc();
     let mut text = Vec::with_capacity(alloc, MOST_TEXT)?;
     rt.reader().take(MOST_TEXT as u64).read_to_end(&mut text)?;
-    let mut desk = Desk::new(alloc);
-    let mut reply = Reply::new(alloc);
-    let mut out = BufWriter::new(alloc, io::writer(rt))?;
+    let mut desk = Desk::new(alloc)?;
+    let mut reply = Reply::new(alloc)?;
     for line in text.split(|b| *b == b'\n') {
         desk.run_line(line, &mut reply)?;
-        out.write_all(reply.line())?;
+        if !reply.line().is_empty() {
+            rt.write_all(reply.line())?;
+        }
     }
-    out.flush()
+    Ok(())
 }

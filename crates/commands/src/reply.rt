@@ -2,7 +2,8 @@
 ghost use Rattle.std.specs.Prelude.{◌<◌};
 
 use crate::outcome::{Entry, Outcome};
-use std::alloc::Global;
+use itoa::{Buffer, Integer};
+use std::alloc::{AllocError, Global};
 use std::io::Write;
 use std::{fmt, io};
 
@@ -11,6 +12,9 @@ const COLUMN: usize = 72;
 
 // The most bytes of a line that are written, its end among them.
 const MOST_LINE: usize = 65536;
+
+// Room for a line, and for a short answer that is left out behind a name as long as that.
+const LINE_ROOM: usize = MOST_LINE + 256;
 
 // What the place counts on 0.
 #[derive(Clone, Copy)]
@@ -65,26 +69,38 @@ fn shown(byte: &u8) -> u8 {
     }
 }
 
+// A number behind a byte. `extend` puts its digits one by one, which for so few is faster than the call that copies a slice.
+fn put_number<T: Integer>(line: &mut Vec<u8>, before: u8, number: T) -> Result<(), AllocError> {
+    line.push(before)?;
+    line.extend(Buffer::new().format(number).as_bytes())
+}
+
 // Each number with a space before it.
-fn put_numbers<T: fmt::Display>(line: &mut Vec<u8>, numbers: &[T]) -> io::Result<()> {
+fn put_numbers<T: Integer>(line: &mut Vec<u8>, numbers: &[T]) -> Result<(), AllocError> {
     for number in numbers {
-        write!(line, " {number}")?;
+        put_number(line, b' ', *number)?;
     }
     Ok(())
 }
 
 // Rows of so many fields, each row in parentheses.
-fn put_rows(line: &mut Vec<u8>, fields: usize, numbers: &[u32]) -> io::Result<()>
+fn put_rows(line: &mut Vec<u8>, fields: usize, numbers: &[u32]) -> Result<(), AllocError>
     requires { 0 < fields }
 {
     for row in numbers.chunks(fields) {
+        line.push(b' ')?;
         for (i, field) in row.iter().enumerate() {
-            let opening = if i == 0 { " (" } else { "," };
-            write!(line, "{opening}{field}")?;
+            let before = if i == 0 { b'(' } else { b',' };
+            put_number(line, before, *field)?;
         }
         line.push(b')')?;
     }
     Ok(())
+}
+
+// As much of a text as a line may have.
+fn cut(text: &[u8]) -> &[u8] {
+    &text[..text.len().min(MOST_LINE)]
 }
 
 impl Entries<'_> {
@@ -109,7 +125,7 @@ impl Entries<'_> {
     }
 
     // As bare numbers.
-    fn put_bare(self, line: &mut Vec<u8>) -> io::Result<()> {
+    fn put_bare(self, line: &mut Vec<u8>) -> Result<(), AllocError> {
         match self {
             Entries::Rows(numbers) | Entries::Nodes(numbers) | Entries::Numbers(numbers) => {
                 put_numbers(line, numbers)
@@ -119,14 +135,14 @@ impl Entries<'_> {
     }
 
     // As a reader wants them.
-    fn put_words(self, line: &mut Vec<u8>) -> io::Result<()> {
+    fn put_words(self, line: &mut Vec<u8>) -> Result<(), AllocError> {
         match self {
             Entries::Rows(rows) => put_rows(line, 5, rows),
             Entries::Nodes(nodes) => put_numbers(line, nodes),
             Entries::Numbers(rows) => put_rows(line, 4, rows),
             Entries::Bytes(bytes) => {
                 line.push(b' ')?;
-                Ok(line.extend(bytes.iter().map(shown))?)
+                line.extend(bytes.iter().map(shown))
             }
         }
     }
@@ -140,12 +156,12 @@ pub struct Reply {
 }
 
 impl Reply {
-    // An empty reply, whose line is made anew for each question.
-    pub fn new(alloc: Global) -> Self {
-        Reply {
-            line: Vec::new(alloc),
+    // An empty reply, whose line is made anew for each question and has its room from the beginning.
+    pub fn new(alloc: Global) -> Result<Self, AllocError> {
+        Ok(Reply {
+            line: Vec::with_capacity(alloc, LINE_ROOM)?,
             named: false,
-        }
+        })
     }
 
     // What is to be written: nothing, or a line with its end.
@@ -161,7 +177,7 @@ impl Reply {
     // The name, if there is one, up to the column of the answers.
     pub fn begin(&mut self, name: &[u8]) -> io::Result<()> {
         self.named = !name.is_empty();
-        self.line.extend_from_slice(name)?;
+        self.line.extend_from_slice(cut(name))?;
         if self.named && name.len() < COLUMN {
             self.line.resize(COLUMN, b' ')?;
         }
@@ -177,7 +193,7 @@ impl Reply {
 
     // A line of text alone.
     pub fn title(&mut self, text: &[u8]) -> io::Result<()> {
-        self.line.extend_from_slice(text)?;
+        self.line.extend_from_slice(cut(text))?;
         self.end()
     }
 
@@ -187,7 +203,7 @@ impl Reply {
             Outcome::Done(place) => write!(self.line, "0 {place}")?,
             Outcome::Refused { number, place } => write!(self.line, "{number} {place}")?,
         }
-        entries.put_bare(&mut self.line)
+        Ok(entries.put_bare(&mut self.line)?)
     }
 
     // An outcome in words: the number, then how many entries and each of them, or the place of a refusal.
@@ -202,7 +218,7 @@ impl Reply {
                     return Ok(());
                 }
                 self.line.push(b':')?;
-                entries.put_words(&mut self.line)
+                Ok(entries.put_words(&mut self.line)?)
             }
         }
     }
@@ -264,7 +280,7 @@ impl Reply {
             let length = part.len();
             write!(self.line, "{begin} {length}")?;
         }
-        put_numbers(&mut self.line, part)
+        Ok(put_numbers(&mut self.line, part)?)
     }
 
     // A place; with a name in words.
