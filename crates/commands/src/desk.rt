@@ -29,9 +29,6 @@ const MOST_LENGTH: usize = 2097152;
 // Room for a table, and for one that the library refuses for its length.
 const TABLE_ROOM: usize = MOST_NUMBERS + 4;
 
-// A table file has four bytes or more for each number: a key, `=`, a digit and the line's end.
-const BYTES_OF_NUMBER: usize = 4;
-
 // What the lines have set; all of it is empty at first. There is room for the most that a line may set, so that setting takes no memory.
 #[derive(Drop)]
 pub struct Desk {
@@ -149,9 +146,10 @@ impl Desk {
         Ok(())
     }
 
-    // The table becomes what reading the file gives, and nothing where that is refused.
+    // The table becomes what reading the file gives, and nothing where that is refused. A file has four bytes or more for each number: a key,
+    // `=`, a digit and the line's end.
     fn take_filed(&mut self) -> Result<(), AllocError> {
-        self.table.resize(self.file.len() / BYTES_OF_NUMBER, 0)?;
+        self.table.resize(self.file.len() / 4, 0)?;
         let outcome = Outcome::from(files::read_table(&self.file, &mut self.table));
         self.table.truncate(outcome.written(1));
         self.too_long = None;
