@@ -6,28 +6,42 @@ use super::{field_at, op_at};
 use meaning::Field::*;
 use meaning::{Field, Fields, LAST_AXIS, Op};
 
+// What the fields a and b of each op hold, in the order of the ops' numbers. A table: read by a match, it would be jumped through.
+static FIRST_TWO: [(Field, Field); 26] = [
+    (Unused, Unused), // Unknown
+    (LiteralIndex, Unused), // Literal
+    (Unused, Unused), // Position
+    (Unused, Unused), // Last
+    (NumberLink, NumberLink), // Add
+    (NumberLink, NumberLink), // Subtract
+    (NumberLink, NumberLink), // Multiply
+    (NumberLink, NumberLink), // Divide
+    (NumberLink, NumberLink), // Remainder
+    (NumberLink, Unused), // Negate
+    (NumberLink, NumberLink), // Equal
+    (NumberLink, NumberLink), // Unequal
+    (NumberLink, NumberLink), // Less
+    (NumberLink, NumberLink), // LessEqual
+    (NumberLink, NumberLink), // Greater
+    (NumberLink, NumberLink), // GreaterEqual
+    (TruthLink, TruthLink), // And
+    (TruthLink, TruthLink), // Or
+    (TruthLink, Unused), // Negation
+    (NumberLink, Unused), // TruthOf
+    (PathLink, Unused), // Exists
+    (PathLink, Unused), // Count
+    (StepLink, Unused), // Relative
+    (StepOrNone, Unused), // Absolute
+    (StepOrNone, PredicateOrNone), // Step
+    (PredicateOrNone, ExpressionLink), // Predicate
+];
+
 // The table of ops: what an op's fields hold.
 #[tactic(auto, unfolding(meaning::specs::Rows::fields_of))]
 fn fields_of(op: Op) -> Fields
     ensures { result ≡ fields_of op }
 {
-    let (a, b) = match op {
-        Op::Unknown | Op::Position | Op::Last => (Unused, Unused),
-        Op::Literal => (LiteralIndex, Unused),
-        Op::Add | Op::Subtract | Op::Multiply | Op::Divide | Op::Remainder => {
-            (NumberLink, NumberLink)
-        }
-        Op::Equal | Op::Unequal => (NumberLink, NumberLink),
-        Op::Less | Op::LessEqual | Op::Greater | Op::GreaterEqual => (NumberLink, NumberLink),
-        Op::And | Op::Or => (TruthLink, TruthLink),
-        Op::Negation => (TruthLink, Unused),
-        Op::Negate | Op::TruthOf => (NumberLink, Unused),
-        Op::Exists | Op::Count => (PathLink, Unused),
-        Op::Relative => (StepLink, Unused),
-        Op::Absolute => (StepOrNone, Unused),
-        Op::Step => (StepOrNone, PredicateOrNone),
-        Op::Predicate => (PredicateOrNone, ExpressionLink),
-    };
+    let (a, b) = FIRST_TWO[op as usize];
     let (c, d) = match op {
         Op::Step => (AxisNumber, TestNumber),
         _ => (Unused, Unused),
