@@ -69,10 +69,14 @@ fn shown(byte: &u8) -> u8 {
     }
 }
 
-// A number behind a byte. `extend` puts its digits one by one, which for so few is faster than the call that copies a slice.
+// A number behind a byte. Its digits are pushed one by one, which for so few is faster than a call that copies them.
 fn put_number<T: Integer>(line: &mut Vec<u8>, before: u8, number: T) -> Result<(), AllocError> {
+    let mut digits = Buffer::new();
     line.push(before)?;
-    line.extend(Buffer::new().format(number).as_bytes())
+    for digit in digits.format(number).as_bytes() {
+        line.push(*digit)?;
+    }
+    Ok(())
 }
 
 // Each number with a space before it.
