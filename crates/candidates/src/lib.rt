@@ -1,6 +1,6 @@
 // The candidates of a step from one node: the rows of an axis that pass a test, in the order of the axis. An axis whose nodes can be told
 // from the table without a scan has a small function of its own, which promises that axis's candidates; the others look at every row.
-// A row of the axis is written where the next candidate goes and counted if it passes, so that no branch hangs on the test.
+// A row that is asked is written where the next candidate goes and counted if it passes, so that no branch hangs on the test.
 #![tactic(auto)]
 
 ghost use Rattle.std.specs.Prelude.{◌≡◌, ◌+◌, ◌<◌, ◌≤◌, min, length, take, ◌&&◌};

@@ -13,7 +13,7 @@ const COLUMN: usize = 72;
 // The most bytes of a line that are written, its end among them.
 const MOST_LINE: usize = 65536;
 
-// Room for a line, and for a short answer that is left out behind a name as long as that.
+// Room for a line, and for an entry and the words behind it that are put before it is cut.
 const LINE_ROOM: usize = MOST_LINE + 256;
 
 // What the place counts on 0.
@@ -79,9 +79,17 @@ fn put_number<T: Integer>(line: &mut Vec<u8>, before: u8, number: T) -> Result<(
     Ok(())
 }
 
+// Has the line its most bytes? Entries behind them are left out, so that it never outgrows its room.
+fn is_full(line: &Vec<u8>) -> bool {
+    MOST_LINE <= line.len()
+}
+
 // Each number with a space before it.
 fn put_numbers<T: Integer>(line: &mut Vec<u8>, numbers: &[T]) -> Result<(), AllocError> {
     for number in numbers {
+        if is_full(line) {
+            break;
+        }
         put_number(line, b' ', *number)?;
     }
     Ok(())
@@ -92,6 +100,9 @@ fn put_rows(line: &mut Vec<u8>, fields: usize, numbers: &[u32]) -> Result<(), Al
     requires { 0 < fields }
 {
     for row in numbers.chunks(fields) {
+        if is_full(line) {
+            break;
+        }
         line.push(b' ')?;
         for (i, field) in row.iter().enumerate() {
             let before = if i == 0 { b'(' } else { b',' };
@@ -146,7 +157,8 @@ impl Entries<'_> {
             Entries::Numbers(rows) => put_rows(line, 4, rows),
             Entries::Bytes(bytes) => {
                 line.push(b' ')?;
-                line.extend(bytes.iter().map(shown))
+                let room = MOST_LINE.saturating_sub(line.len());
+                line.extend(bytes.iter().take(room).map(shown))
             }
         }
     }

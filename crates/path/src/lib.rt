@@ -13,7 +13,7 @@ use meaning::{Axis, Op, Test};
 // The inverse axis of each axis: 1 and 2, 3 and 4 and so on are inverse to each other; 11 has none, and 0 fills its place.
 const INVERSES: [usize; 12] = [0, 2, 1, 4, 3, 6, 5, 8, 7, 10, 9, 0];
 
-// The last row whose fields all have an index. Beside a path's length, this bound falls away where a row is known to be small.
+// The last row whose fields all have an index. Unlike a path's length, this bound falls away where a row is known to be small.
 const LAST_ROW: usize = (usize::MAX - 4) / 5;
 
 // How many rows the path has.

@@ -73,8 +73,8 @@ fn good_name(table: &[u32], i: usize) -> bool
     }
 }
 
-// Are row i's own numbers sound: a kind from 1 to 5, a name as it has it, and a size for elements alone? Its kind by number, since a table
-// that is not yet checked holds any. Its size by |, which reads both sides, so that no branch hangs on which rows are elements.
+// Are row i's own numbers sound: a kind from 1 to 5, a name as it has it, and a size for elements alone? Its kind by number, where one range
+// is faster than two kinds. Its size by |, which reads both sides, so that no branch hangs on which rows are elements.
 #[tactic(auto, using(table::proofs::Numbers::same_kind), unfolding(meaning::specs::Table::good_size))]
 fn good_numbers(table: &[u32], i: usize) -> bool
     requires { i < rows table.now }
