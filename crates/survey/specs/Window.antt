@@ -9,7 +9,7 @@ use Rattle.survey.specs.declared.window.Slot.{Slot}
 abbrev pub span : ℕ
 span = 2048
 
--- a level as the window holds it, and the level that it holds
+-- a level as the window holds it
 abbrev pub slot_of : Level → Slot
 slot_of l = record {
   e = l.e;
@@ -22,6 +22,7 @@ slot_of l = record {
   andor = l.andor;
 }
 
+-- the level that a slot holds
 abbrev pub level_of : Slot → Level
 level_of s = record {
   kind = s.kind;
